@@ -1,0 +1,41 @@
+-- One law for every loop that applies a lane function at each place: `a[i] = f(a[i], b[i])`, for i from 0 up.
+-- Assumes nothing.
+use mathlib.Core.Path.{_≡_, refl, ap}
+use mathlib.Core.List.{List, [], _∷_, map}
+use Prim.Native.Nat.{ℕ, zero, suc, _+_, _<_}
+use native.Mathlib.Nat.{not-suc-le-zero, le-of-suc-le-suc, suc-inj, suc-ne-zero}
+use lib.ListN.{length, getD, set}
+use Rattle.standard.specs.Lanes.{zip}
+
+-- xs with its first i elements replaced by f of them and of those of ys
+abbrev pub zipTo : (ℕ → ℕ → ℕ) → ℕ → List ℕ → List ℕ → List ℕ
+zipTo f zero xs ys = xs
+zipTo f (suc i) [] ys = []
+zipTo f (suc i) (x ∷ xs) [] = x ∷ xs
+zipTo f (suc i) (x ∷ xs) (y ∷ ys) = f x y ∷ zipTo f i xs ys
+
+pub length-zipTo : (f : ℕ → ℕ → ℕ) (i : ℕ) (xs ys : List ℕ) → length (zipTo f i xs ys) ≡ length xs
+length-zipTo f zero xs ys = refl
+length-zipTo f (suc i) [] ys = refl
+length-zipTo f (suc i) (x ∷ xs) [] = refl
+length-zipTo f (suc i) (x ∷ xs) (y ∷ ys) = ap suc (length-zipTo f i xs ys)
+
+-- a turn of the loop
+pub zipTo-turn : (f : ℕ → ℕ → ℕ) (i : ℕ) (xs ys : List ℕ) → i < length xs → i < length ys
+    → set (zipTo f i xs ys) i (f (getD (zipTo f i xs ys) i 0) (getD ys i 0)) ≡ zipTo f (suc i) xs ys
+zipTo-turn f i [] ys hx hy = absurd (not-suc-le-zero hx)
+zipTo-turn f i (x ∷ xs) [] hx hy = absurd (not-suc-le-zero hy)
+zipTo-turn f zero (x ∷ xs) (y ∷ ys) hx hy = refl
+zipTo-turn f (suc i) (x ∷ xs) (y ∷ ys) hx hy =
+    ap (λ (r : List ℕ). f x y ∷ r) (zipTo-turn f i xs ys (le-of-suc-le-suc hx) (le-of-suc-le-suc hy))
+
+-- the loop's end
+pub zipTo-all : (f : ℕ → ℕ → ℕ) (xs ys : List ℕ) → length xs ≡ length ys → zipTo f (length xs) xs ys ≡ zip f xs ys
+zipTo-all f [] ys e = refl
+zipTo-all f (x ∷ xs) [] e = absurd (suc-ne-zero (length xs) e)
+zipTo-all f (x ∷ xs) (y ∷ ys) e = ap (λ (r : List ℕ). f x y ∷ r) (zipTo-all f xs ys (suc-inj e))
+
+-- a loop over one list: the second operand is not looked at
+pub zip-map : (f : ℕ → ℕ) (xs : List ℕ) → zip (λ x y. f x) xs xs ≡ map f xs
+zip-map f [] = refl
+zip-map f (x ∷ xs) = ap (λ (r : List ℕ). f x ∷ r) (zip-map f xs)

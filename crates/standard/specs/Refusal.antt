@@ -1,0 +1,13 @@
+-- Refusals (document 01, the table "No., Given exactly when, Returns and leaves").
+use Prim.Native.Nat.{ℕ, _/_}
+use mathlib.Core.Bool.{Bool, true, false, cond}
+use lib.Dec.{ltb}
+
+-- What an operation gives, or the number of its refusal.
+pub data Answer (A : Type 0) : Type 0 where
+  given : A → Answer A
+  refused : ℕ → Answer A
+
+-- 4: "lane not below the lane count".
+abbrev pub at-lane : {A : Type 0} → ℕ → ℕ → A → Answer A
+at-lane w lane a = cond (ltb lane (128 / w)) (given a) (refused 4)
