@@ -1,1 +1,5 @@
+pub mod Magnitude
+pub mod Negation
+pub mod Product
+pub mod Saturation
 pub mod Signed

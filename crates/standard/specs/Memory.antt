@@ -7,7 +7,7 @@ use lib.ListN.{length, take, drop}
 use lib.Dec.{leb}
 use Rattle.standard.specs.Lanes.{digits, joined, splat, extract, replace}
 use Rattle.standard.specs.Vector.{widen}
-use Rattle.standard.specs.Refusal.{Answer, given, refused, at-lane}
+use Rattle.standard.specs.Refusal.{Answer, given, refused, lane-first}
 
 -- 7: "access past the end". An access of n bytes is allowed when the exact end is at most the length.
 abbrev pub within : {A : Type 0} → List ℕ → ℕ → ℕ → A → Answer A
@@ -32,14 +32,6 @@ load-splat w m at = within m at (w / 8) (splat w (number-at m at (w / 8)))
 -- v128.loadMxN_sx: 8 bytes, widened.
 abbrev pub load-widen : (ℕ → ℕ → ℕ → ℕ) → ℕ → List ℕ → ℕ → Answer ℕ
 load-widen sx w m at = within m at 8 (widen sx w (number-at m at 8))
-
--- 4 is tested before 7.
-abbrev pub lane-first : {A : Type 0} → ℕ → ℕ → Answer A → Answer A
-lane-first w lane a = cond-lane (at-lane w lane a)
-  where
-    cond-lane : {A : Type 0} → Answer (Answer A) → Answer A
-    cond-lane (given b) = b
-    cond-lane (refused n) = refused n
 
 -- v128.loadN_lane into the vector x.
 abbrev pub load-lane : ℕ → ℕ → ℕ → List ℕ → ℕ → Answer ℕ

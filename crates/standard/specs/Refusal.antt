@@ -8,6 +8,9 @@ pub data Answer (A : Type 0) : Type 0 where
   given : A → Answer A
   refused : ℕ → Answer A
 
--- 4: "lane not below the lane count".
+-- 4: "lane not below the lane count". What else may be refused is tested after it.
+abbrev pub lane-first : {A : Type 0} → ℕ → ℕ → Answer A → Answer A
+lane-first w lane a = cond (ltb lane (128 / w)) a (refused 4)
+
 abbrev pub at-lane : {A : Type 0} → ℕ → ℕ → A → Answer A
-at-lane w lane a = cond (ltb lane (128 / w)) (given a) (refused 4)
+at-lane w lane a = lane-first w lane (given a)
