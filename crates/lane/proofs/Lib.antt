@@ -1,3 +1,4 @@
+pub mod Numbers
 pub mod Magnitude
 pub mod Negation
 pub mod Product

@@ -1,0 +1,41 @@
+-- `lane::lanewise::unary16` meets its contract: each arm by its callee's promise, at the number that led there. Assumes nothing.
+use borrow.Author.Needs.{needs}
+use Rattle.lane.proofs.Numbers.{past, no-unary}
+use Rattle.lane.proofs.lanewise.unary16.Statement.{statement}
+use Rattle.lane.proofs.lanewise.unary16.Tie as tie
+
+neg16-requires : tie.Need-neg16-requires
+neg16-requires c κs = search needs
+
+abs16-requires : tie.Need-abs16-requires
+abs16-requires c κs = search needs
+
+shl16-requires : tie.Need-shl16-requires
+shl16-requires c κs = search needs
+
+shr-s16-requires : tie.Need-shr-s16-requires
+shr-s16-requires c κs = search needs
+
+shr-u16-requires : tie.Need-shr-u16-requires
+shr-u16-requires c κs = search needs
+
+returns : tie.Need-returns
+returns c = rw (c .before .match .keys1) (c .neg16 .ensures)
+
+returns-2 : tie.Need-returns-2
+returns-2 c = rw (c .before .match .keys2) (c .abs16 .ensures)
+
+returns-3 : tie.Need-returns-3
+returns-3 c = rw (c .before .match .keys3) (c .shl16 .ensures)
+
+returns-4 : tie.Need-returns-4
+returns-4 c = rw (c .before .match .keys4) (c .shr-s16 .ensures)
+
+returns-5 : tie.Need-returns-5
+returns-5 c = rw (c .before .match .keys5) (c .shr-u16 .ensures)
+
+returns-6 : tie.Need-returns-6
+returns-6 c = no-unary 5 16 (c .before .args .op) (c .before .args .count) (c .before .args .x) (past _ 5 (c .match .rest))
+
+pub unary16-spec : {M : Type 1} → statement M
+unary16-spec = tie.close (tie.spec neg16-requires abs16-requires shl16-requires shr-s16-requires shr-u16-requires returns returns-2 returns-3 returns-4 returns-5 returns-6)

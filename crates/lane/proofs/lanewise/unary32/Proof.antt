@@ -1,0 +1,41 @@
+-- `lane::lanewise::unary32` meets its contract: each arm by its callee's promise, at the number that led there. Assumes nothing.
+use borrow.Author.Needs.{needs}
+use Rattle.lane.proofs.Numbers.{past, no-unary}
+use Rattle.lane.proofs.lanewise.unary32.Statement.{statement}
+use Rattle.lane.proofs.lanewise.unary32.Tie as tie
+
+neg32-requires : tie.Need-neg32-requires
+neg32-requires c κs = search needs
+
+abs32-requires : tie.Need-abs32-requires
+abs32-requires c κs = search needs
+
+shl32-requires : tie.Need-shl32-requires
+shl32-requires c κs = search needs
+
+shr-s32-requires : tie.Need-shr-s32-requires
+shr-s32-requires c κs = search needs
+
+shr-u32-requires : tie.Need-shr-u32-requires
+shr-u32-requires c κs = search needs
+
+returns : tie.Need-returns
+returns c = rw (c .before .match .keys1) (c .neg32 .ensures)
+
+returns-2 : tie.Need-returns-2
+returns-2 c = rw (c .before .match .keys2) (c .abs32 .ensures)
+
+returns-3 : tie.Need-returns-3
+returns-3 c = rw (c .before .match .keys3) (c .shl32 .ensures)
+
+returns-4 : tie.Need-returns-4
+returns-4 c = rw (c .before .match .keys4) (c .shr-s32 .ensures)
+
+returns-5 : tie.Need-returns-5
+returns-5 c = rw (c .before .match .keys5) (c .shr-u32 .ensures)
+
+returns-6 : tie.Need-returns-6
+returns-6 c = no-unary 5 32 (c .before .args .op) (c .before .args .count) (c .before .args .x) (past _ 5 (c .match .rest))
+
+pub unary32-spec : {M : Type 1} → statement M
+unary32-spec = tie.close (tie.spec neg32-requires abs32-requires shl32-requires shr-s32-requires shr-u32-requires returns returns-2 returns-3 returns-4 returns-5 returns-6)

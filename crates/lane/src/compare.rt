@@ -1,0 +1,56 @@
+// The order of two lanes by their signed readings.
+ghost use mathlib.Core.Path.{_≡_};
+ghost use lib.Signed.{ltZ, leZ};
+ghost use Rattle.standard.specs.Integer.{signed};
+use crate::reinterpret::signed8;
+use crate::reinterpret::signed16;
+use crate::reinterpret::signed32;
+use crate::reinterpret::signed64;
+
+pub fn lt_s8(a: u8, b: u8) -> bool
+    ensures { λ r. ⌜ r ≡ ltZ (signed 8 a) (signed 8 b) ⌝ }
+{
+    signed8(a) < signed8(b)
+}
+
+pub fn le_s8(a: u8, b: u8) -> bool
+    ensures { λ r. ⌜ r ≡ leZ (signed 8 a) (signed 8 b) ⌝ }
+{
+    signed8(a) <= signed8(b)
+}
+
+pub fn lt_s16(a: u16, b: u16) -> bool
+    ensures { λ r. ⌜ r ≡ ltZ (signed 16 a) (signed 16 b) ⌝ }
+{
+    signed16(a) < signed16(b)
+}
+
+pub fn le_s16(a: u16, b: u16) -> bool
+    ensures { λ r. ⌜ r ≡ leZ (signed 16 a) (signed 16 b) ⌝ }
+{
+    signed16(a) <= signed16(b)
+}
+
+pub fn lt_s32(a: u32, b: u32) -> bool
+    ensures { λ r. ⌜ r ≡ ltZ (signed 32 a) (signed 32 b) ⌝ }
+{
+    signed32(a) < signed32(b)
+}
+
+pub fn le_s32(a: u32, b: u32) -> bool
+    ensures { λ r. ⌜ r ≡ leZ (signed 32 a) (signed 32 b) ⌝ }
+{
+    signed32(a) <= signed32(b)
+}
+
+pub fn lt_s64(a: u64, b: u64) -> bool
+    ensures { λ r. ⌜ r ≡ ltZ (signed 64 a) (signed 64 b) ⌝ }
+{
+    signed64(a) < signed64(b)
+}
+
+pub fn le_s64(a: u64, b: u64) -> bool
+    ensures { λ r. ⌜ r ≡ leZ (signed 64 a) (signed 64 b) ⌝ }
+{
+    signed64(a) <= signed64(b)
+}
