@@ -1,0 +1,247 @@
+// WebAssembly's 128-bit vectors: `V128` and every operation of wasmi_core's simd.rs, under its name, in files by family. Here: the vector, its lanes
+// as arrays and back, and the loops over lanes.
+ghost use mathlib.Core.Path.{_≡_};
+ghost use mathlib.Core.List.{_++_, _∷_, []};
+ghost use Rattle.standard.specs.Lanes.{digits, joined, lanes, unary, binary};
+ghost use Rattle.lane.specs.Lanewise.{unary-of, binary-of};
+ghost use Rattle.simd.specs.Number.{number};
+
+// The 128 bits of a vector, low half first: byte 0 is the low byte of `lo`.
+pub struct V128 {
+    pub lo: u64,
+    pub hi: u64,
+}
+
+// The lanes of two halves, low half first.
+fn split8(lo: u64, hi: u64) -> [u8; 16]
+    ensures { λ r. ⌜ r ≡ digits 8 8 lo ++ digits 8 8 hi ⌝ }
+{
+    let l1 = lo / 256;
+    let l2 = l1 / 256;
+    let l3 = l2 / 256;
+    let l4 = l3 / 256;
+    let l5 = l4 / 256;
+    let l6 = l5 / 256;
+    let l7 = l6 / 256;
+    let h1 = hi / 256;
+    let h2 = h1 / 256;
+    let h3 = h2 / 256;
+    let h4 = h3 / 256;
+    let h5 = h4 / 256;
+    let h6 = h5 / 256;
+    let h7 = h6 / 256;
+    [
+        (lo % 256) as u8,
+        (l1 % 256) as u8,
+        (l2 % 256) as u8,
+        (l3 % 256) as u8,
+        (l4 % 256) as u8,
+        (l5 % 256) as u8,
+        (l6 % 256) as u8,
+        (l7 % 256) as u8,
+        (hi % 256) as u8,
+        (h1 % 256) as u8,
+        (h2 % 256) as u8,
+        (h3 % 256) as u8,
+        (h4 % 256) as u8,
+        (h5 % 256) as u8,
+        (h6 % 256) as u8,
+        (h7 % 256) as u8,
+    ]
+}
+
+// The half of these lanes, lowest first.
+fn half8(a: u8, b: u8, c: u8, d: u8, e: u8, f: u8, g: u8, h: u8) -> u64
+    ensures { λ r. ⌜ r ≡ joined 8 (a ∷ b ∷ c ∷ d ∷ e ∷ f ∷ g ∷ h ∷ []) ⌝ }
+{
+    (a as u64)
+        + 256
+            * ((b as u64)
+                + 256
+                    * ((c as u64)
+                        + 256
+                            * ((d as u64)
+                                + 256
+                                    * ((e as u64)
+                                        + 256
+                                            * ((f as u64)
+                                                + 256 * ((g as u64) + 256 * ((h as u64))))))))
+}
+
+// The lanes of two halves, low half first.
+fn split16(lo: u64, hi: u64) -> [u16; 8]
+    ensures { λ r. ⌜ r ≡ digits 16 4 lo ++ digits 16 4 hi ⌝ }
+{
+    let l1 = lo / 65536;
+    let l2 = l1 / 65536;
+    let l3 = l2 / 65536;
+    let h1 = hi / 65536;
+    let h2 = h1 / 65536;
+    let h3 = h2 / 65536;
+    [
+        (lo % 65536) as u16,
+        (l1 % 65536) as u16,
+        (l2 % 65536) as u16,
+        (l3 % 65536) as u16,
+        (hi % 65536) as u16,
+        (h1 % 65536) as u16,
+        (h2 % 65536) as u16,
+        (h3 % 65536) as u16,
+    ]
+}
+
+// The half of these lanes, lowest first.
+fn half16(a: u16, b: u16, c: u16, d: u16) -> u64
+    ensures { λ r. ⌜ r ≡ joined 16 (a ∷ b ∷ c ∷ d ∷ []) ⌝ }
+{
+    (a as u64) + 65536 * ((b as u64) + 65536 * ((c as u64) + 65536 * ((d as u64))))
+}
+
+// The lanes of two halves, low half first.
+fn split32(lo: u64, hi: u64) -> [u32; 4]
+    ensures { λ r. ⌜ r ≡ digits 32 2 lo ++ digits 32 2 hi ⌝ }
+{
+    let l1 = lo / 4294967296;
+    let h1 = hi / 4294967296;
+    [
+        (lo % 4294967296) as u32,
+        (l1 % 4294967296) as u32,
+        (hi % 4294967296) as u32,
+        (h1 % 4294967296) as u32,
+    ]
+}
+
+// The half of these lanes, lowest first.
+fn half32(a: u32, b: u32) -> u64
+    ensures { λ r. ⌜ r ≡ joined 32 (a ∷ b ∷ []) ⌝ }
+{
+    (a as u64) + 4294967296 * ((b as u64))
+}
+
+impl V128 {
+    fn lanes8(self) -> [u8; 16]
+        ensures { λ r. ⌜ r ≡ lanes 8 (number self) ⌝ }
+    {
+        split8(self.lo, self.hi)
+    }
+
+    fn join8(a: [u8; 16]) -> V128
+        ensures { λ r. ⌜ number r ≡ joined 8 a ⌝ }
+    {
+        V128 {
+            lo: half8(a[0], a[1], a[2], a[3], a[4], a[5], a[6], a[7]),
+            hi: half8(a[8], a[9], a[10], a[11], a[12], a[13], a[14], a[15]),
+        }
+    }
+
+    fn unary8(self, op: u8, count: u32) -> V128
+        ensures { λ r. ⌜ number r ≡ unary 8 (unary-of 6 8 op count) (number self) ⌝ }
+    {
+        let mut a = self.lanes8();
+        for i in 0..16 {
+            a[i] = lane::lanewise::unary8(op, count, a[i]);
+        }
+        V128::join8(a)
+    }
+
+    fn binary8(self, rhs: V128, op: u8) -> V128
+        ensures { λ r. ⌜ number r ≡ binary 8 (binary-of 22 8 op) (number self) (number rhs) ⌝ }
+    {
+        let mut a = self.lanes8();
+        let b = rhs.lanes8();
+        for i in 0..16 {
+            a[i] = lane::lanewise::binary8(op, a[i], b[i]);
+        }
+        V128::join8(a)
+    }
+
+    fn lanes16(self) -> [u16; 8]
+        ensures { λ r. ⌜ r ≡ lanes 16 (number self) ⌝ }
+    {
+        split16(self.lo, self.hi)
+    }
+
+    fn join16(a: [u16; 8]) -> V128
+        ensures { λ r. ⌜ number r ≡ joined 16 a ⌝ }
+    {
+        V128 {
+            lo: half16(a[0], a[1], a[2], a[3]),
+            hi: half16(a[4], a[5], a[6], a[7]),
+        }
+    }
+
+    fn unary16(self, op: u8, count: u32) -> V128
+        ensures { λ r. ⌜ number r ≡ unary 16 (unary-of 5 16 op count) (number self) ⌝ }
+    {
+        let mut a = self.lanes16();
+        for i in 0..8 {
+            a[i] = lane::lanewise::unary16(op, count, a[i]);
+        }
+        V128::join16(a)
+    }
+
+    fn binary16(self, rhs: V128, op: u8) -> V128
+        ensures { λ r. ⌜ number r ≡ binary 16 (binary-of 23 16 op) (number self) (number rhs) ⌝ }
+    {
+        let mut a = self.lanes16();
+        let b = rhs.lanes16();
+        for i in 0..8 {
+            a[i] = lane::lanewise::binary16(op, a[i], b[i]);
+        }
+        V128::join16(a)
+    }
+
+    fn lanes32(self) -> [u32; 4]
+        ensures { λ r. ⌜ r ≡ lanes 32 (number self) ⌝ }
+    {
+        split32(self.lo, self.hi)
+    }
+
+    fn join32(a: [u32; 4]) -> V128
+        ensures { λ r. ⌜ number r ≡ joined 32 a ⌝ }
+    {
+        V128 {
+            lo: half32(a[0], a[1]),
+            hi: half32(a[2], a[3]),
+        }
+    }
+
+    fn unary32(self, op: u8, count: u32) -> V128
+        ensures { λ r. ⌜ number r ≡ unary 32 (unary-of 5 32 op count) (number self) ⌝ }
+    {
+        let mut a = self.lanes32();
+        for i in 0..4 {
+            a[i] = lane::lanewise::unary32(op, count, a[i]);
+        }
+        V128::join32(a)
+    }
+
+    fn binary32(self, rhs: V128, op: u8) -> V128
+        ensures { λ r. ⌜ number r ≡ binary 32 (binary-of 17 32 op) (number self) (number rhs) ⌝ }
+    {
+        let mut a = self.lanes32();
+        let b = rhs.lanes32();
+        for i in 0..4 {
+            a[i] = lane::lanewise::binary32(op, a[i], b[i]);
+        }
+        V128::join32(a)
+    }
+
+    fn unary64(self, op: u8, count: u32) -> V128
+        ensures { λ r. ⌜ number r ≡ unary 64 (unary-of 5 64 op count) (number self) ⌝ }
+    {
+        V128 {
+            lo: lane::lanewise::unary64(op, count, self.lo),
+            hi: lane::lanewise::unary64(op, count, self.hi),
+        }
+    }
+
+    fn binary64(self, rhs: V128, op: u8) -> V128
+        ensures { λ r. ⌜ number r ≡ binary 64 (binary-of 9 64 op) (number self) (number rhs) ⌝ }
+    {
+        V128 {
+            lo: lane::lanewise::binary64(op, self.lo, rhs.lo),
+            hi: lane::lanewise::binary64(op, self.hi, rhs.hi),
+        }
+    }
+}
