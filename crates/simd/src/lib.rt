@@ -1,5 +1,9 @@
 // WebAssembly's 128-bit vectors: `V128` and every operation of wasmi_core's simd.rs, under its name, in files by family. Here: the vector, its lanes
 // as arrays and back, and the loops over lanes.
+pub mod arithmetic;
+pub mod compare;
+pub mod shift;
+
 ghost use mathlib.Core.Path.{_≡_};
 ghost use mathlib.Core.List.{_++_, _∷_, []};
 ghost use Rattle.standard.specs.Lanes.{digits, joined, lanes, unary, binary};
