@@ -1,5 +1,6 @@
 pub mod Numbers
 pub mod Magnitude
+pub mod Nan
 pub mod Negation
 pub mod Product
 pub mod Saturation

@@ -1,1 +1,2 @@
 pub mod Lanewise
+pub mod Scalar
