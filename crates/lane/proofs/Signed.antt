@@ -11,7 +11,7 @@ use lib.IntN.{ℤ, pos, negsuc, natAbs, _-ℤ_}
 use lib.Signed.{ltZ, nonNeg, mag}
 use mir.Syntax.{Width, w8, w16, w32, w64, w128}
 use mir.Val.{Fits, SFits, bits, hbits, toZ, ofZ, sel}
-use mir.ValLaws.{half-full, toZ-pos}
+use mir.ValLaws.{half-full, toZ-pos, toZ-fits, ofZ-toZ}
 use mir.Facts.{toZ-ofZ}
 use Rattle.standard.specs.Integer.{signed, modulo}
 
@@ -65,3 +65,11 @@ module _ (w : Width) (z : ℤ) (f : SFits w z) where
 
   pub positive-modulo : ltZ (toZ w (ofZ w z)) (pos 0) ≡ false → natAbs (toZ w (ofZ w z)) ≡ modulo (bits w) z
   positive-modulo t = rw (toZ-ofZ f) (plain w z f (rw (toZ-ofZ f) at t) .2)
+
+-- the signed reading, modulo 2^N, is the lane again
+modulo-is : (w : Width) (z : ℤ) → SFits w z → modulo (bits w) z ≡ ofZ w z
+modulo-is w (pos n) f = mod-eq-of-lt (half-full w (f .sfits))
+modulo-is w (negsuc n) f = ap (λ (k : ℕ). 2 ^ bits w - suc k) (mod-eq-of-lt (half-full w (f .sfits)))
+
+pub modulo-signed : (w : Width) (x : ℕ) → Fits w x → modulo (bits w) (signed (bits w) x) ≡ x
+modulo-signed w x f = ap (modulo (bits w)) (sym (reads w x f)) ∙ modulo-is w (toZ w x) (toZ-fits w x f) ∙ ofZ-toZ w x f

@@ -1,14 +1,24 @@
 // WebAssembly's 128-bit vectors: `V128` and every operation of wasmi_core's simd.rs, under its name, in files by family. Here: the vector, its lanes
 // as arrays and back, and the loops over lanes.
+pub mod answer;
 pub mod arithmetic;
+pub mod bitwise;
 pub mod compare;
+pub mod extract;
+pub mod replace;
 pub mod shift;
+pub mod splat;
 
 ghost use mathlib.Core.Path.{_≡_};
 ghost use mathlib.Core.List.{_++_, _∷_, []};
-ghost use Rattle.standard.specs.Lanes.{digits, joined, lanes, unary, binary};
+ghost use Rattle.standard.specs.Lanes.{digits, joined, lanes, unary, binary, splat, extract, replace};
+ghost use Rattle.standard.specs.Refusal.{at-lane};
 ghost use Rattle.lane.specs.Lanewise.{unary-of, binary-of};
 ghost use Rattle.simd.specs.Number.{number};
+ghost use Rattle.simd.specs.Answer.{vector-answer};
+ghost use Prim.Native.Nat.{_<_};
+use answer::LANE;
+use answer::VectorAnswer;
 
 // The 128 bits of a vector, low half first: byte 0 is the low byte of `lo`.
 pub struct V128 {
@@ -229,6 +239,115 @@ impl V128 {
             a[i] = lane::lanewise::binary32(op, a[i], b[i]);
         }
         V128::join32(a)
+    }
+
+    fn splat8(x: u8) -> V128
+        ensures { λ r. ⌜ number r ≡ splat 8 x ⌝ }
+    {
+        V128::join8([x; 16])
+    }
+
+    fn lane8(self, lane: u8) -> u8
+        requires { ⌜ lane < 16 ⌝ }
+        ensures { λ r. ⌜ r ≡ extract 8 (number self) lane ⌝ }
+    {
+        let i = lane as usize;
+        let a = self.lanes8();
+        a[i]
+    }
+
+    fn replace8(self, lane: u8, x: u8) -> VectorAnswer
+        ensures { λ r. ⌜ vector-answer r ≡ at-lane 8 lane (replace 8 (number self) lane x) ⌝ }
+    {
+        if lane < 16 {
+            let i = lane as usize;
+            let mut a = self.lanes8();
+            a[i] = x;
+            VectorAnswer::Vector(V128::join8(a))
+        } else {
+            VectorAnswer::Refused(LANE)
+        }
+    }
+
+    fn splat16(x: u16) -> V128
+        ensures { λ r. ⌜ number r ≡ splat 16 x ⌝ }
+    {
+        V128::join16([x; 8])
+    }
+
+    fn lane16(self, lane: u8) -> u16
+        requires { ⌜ lane < 8 ⌝ }
+        ensures { λ r. ⌜ r ≡ extract 16 (number self) lane ⌝ }
+    {
+        let i = lane as usize;
+        let a = self.lanes16();
+        a[i]
+    }
+
+    fn replace16(self, lane: u8, x: u16) -> VectorAnswer
+        ensures { λ r. ⌜ vector-answer r ≡ at-lane 16 lane (replace 16 (number self) lane x) ⌝ }
+    {
+        if lane < 8 {
+            let i = lane as usize;
+            let mut a = self.lanes16();
+            a[i] = x;
+            VectorAnswer::Vector(V128::join16(a))
+        } else {
+            VectorAnswer::Refused(LANE)
+        }
+    }
+
+    fn splat32(x: u32) -> V128
+        ensures { λ r. ⌜ number r ≡ splat 32 x ⌝ }
+    {
+        V128::join32([x; 4])
+    }
+
+    fn lane32(self, lane: u8) -> u32
+        requires { ⌜ lane < 4 ⌝ }
+        ensures { λ r. ⌜ r ≡ extract 32 (number self) lane ⌝ }
+    {
+        let i = lane as usize;
+        let a = self.lanes32();
+        a[i]
+    }
+
+    fn replace32(self, lane: u8, x: u32) -> VectorAnswer
+        ensures { λ r. ⌜ vector-answer r ≡ at-lane 32 lane (replace 32 (number self) lane x) ⌝ }
+    {
+        if lane < 4 {
+            let i = lane as usize;
+            let mut a = self.lanes32();
+            a[i] = x;
+            VectorAnswer::Vector(V128::join32(a))
+        } else {
+            VectorAnswer::Refused(LANE)
+        }
+    }
+
+    fn splat64(x: u64) -> V128
+        ensures { λ r. ⌜ number r ≡ splat 64 x ⌝ }
+    {
+        V128 { lo: x, hi: x }
+    }
+
+    fn lane64(self, lane: u8) -> u64
+        requires { ⌜ lane < 2 ⌝ }
+        ensures { λ r. ⌜ r ≡ extract 64 (number self) lane ⌝ }
+    {
+        if lane == 0 { self.lo } else { self.hi }
+    }
+
+    fn replace64(self, lane: u8, x: u64) -> VectorAnswer
+        ensures { λ r. ⌜ vector-answer r ≡ at-lane 64 lane (replace 64 (number self) lane x) ⌝ }
+    {
+        if lane == 0 {
+            VectorAnswer::Vector(V128 { lo: x, hi: self.hi })
+        } else if lane == 1 {
+            VectorAnswer::Vector(V128 { lo: self.lo, hi: x })
+        } else {
+            VectorAnswer::Refused(LANE)
+        }
     }
 
     fn unary64(self, op: u8, count: u32) -> V128

@@ -1,3 +1,5 @@
+pub mod Access
+pub mod Bitwise
 pub mod Digits
 pub mod Halves
 pub mod Loop

@@ -1,0 +1,20 @@
+-- `simd::V128::i16x8_extract_lane_u` meets its contract. Assumes nothing.
+use borrow.Author.Needs.{needs}
+use Rattle.standard.proofs.Access.{lane-taken, lane-refused}
+use Rattle.simd.proofs.V128.i16x8_extract_lane_u.Statement.{statement}
+use Rattle.simd.proofs.V128.i16x8_extract_lane_u.Tie as tie
+
+lane16-requires : tie.Need-lane16-requires
+lane16-requires c κs = search needs
+
+cast-t6 : tie.Need-cast-t6
+cast-t6 c = search needs
+
+returns : tie.Need-returns
+returns c = lane-taken 16 _ (c .before .if1 .taken) (c .lane16 .ensures)
+
+returns-2 : tie.Need-returns-2
+returns-2 c = lane-refused 16 _ _ (c .if1 .left)
+
+pub i16x8-extract-lane-u-spec : {M : Type 1} → statement M
+i16x8-extract-lane-u-spec = tie.close (tie.spec lane16-requires cast-t6 returns returns-2)

@@ -1,0 +1,20 @@
+-- `simd::V128::lane32` meets its contract. Assumes nothing.
+use borrow.Author.Needs.{needs}
+use Rattle.standard.proofs.Access.{extract-is}
+use Rattle.simd.proofs.V128.lane32.Statement.{statement}
+use Rattle.simd.proofs.V128.lane32.Tie as tie
+
+lanes32-requires : tie.Need-lanes32-requires
+lanes32-requires c κs = search needs
+
+mul-result : tie.Need-mul-result
+mul-result c = search needs
+
+array-read-result : tie.Need-array-read-result
+array-read-result c = search needs
+
+returns : tie.Need-returns
+returns c = extract-is 32 _ _ (c .lanes32 .ensures)
+
+pub lane32-spec : {M : Type 1} → statement M
+lane32-spec = tie.close (tie.spec lanes32-requires mul-result array-read-result returns)
