@@ -67,7 +67,7 @@ module _ (w : Width) (z : ℤ) (f : SFits w z) where
   positive-modulo t = rw (toZ-ofZ f) (plain w z f (rw (toZ-ofZ f) at t) .2)
 
 -- the signed reading, modulo 2^N, is the lane again
-modulo-is : (w : Width) (z : ℤ) → SFits w z → modulo (bits w) z ≡ ofZ w z
+pub modulo-is : (w : Width) (z : ℤ) → SFits w z → modulo (bits w) z ≡ ofZ w z
 modulo-is w (pos n) f = mod-eq-of-lt (half-full w (f .sfits))
 modulo-is w (negsuc n) f = ap (λ (k : ℕ). 2 ^ bits w - suc k) (mod-eq-of-lt (half-full w (f .sfits)))
 

@@ -7,7 +7,7 @@ use native.Mathlib.Nat.{add-zero, zero-add, add-comm, add-assoc, suc-add, mul-ze
 use lib.Arith.{lt-one, digits-lt}
 use lib.Pow.{pow-pos, pow-add, shr-lt}
 use lib.ListN.{length}
-use Rattle.standard.specs.Lanes.{digits, joined}
+use Rattle.standard.specs.Lanes.{digits, joined, lanes}
 
 -- Every element is below b.
 abbrev pub Below : ℕ → List ℕ → Type 0
@@ -54,7 +54,7 @@ joined-lt w (d ∷ ds) b =
     rw (pow-step, add-comm d (2 ^ w * joined w ds), mul-comm (2 ^ w) (joined w ds)) (digits-lt (joined-lt w ds (b .1)) (b .0))
 
 -- a number is determined by its digits
-pub determined : (w n x y : ℕ) → x < 2 ^ (w * n) → y < 2 ^ (w * n) → digits w n x ≡ digits w n y → x ≡ y
+determined : (w n x y : ℕ) → x < 2 ^ (w * n) → y < 2 ^ (w * n) → digits w n x ≡ digits w n y → x ≡ y
 determined w n x y hx hy e = sym (joined-digits w n x hx) ∙ ap (joined w) e ∙ joined-digits w n y hy
 
 -- the digits of a number in two parts, and the number of a list in two parts
@@ -82,3 +82,17 @@ joined-append w (x ∷ xs) ys =
     ∙ ap (λ (j : ℕ). x + 2 ^ w * joined w xs + j)
     (sym (mul-assoc (2 ^ w) (2 ^ (w * length xs)) (joined w ys))
     ∙ ap (λ (p : ℕ). p * joined w ys) (mul-comm (2 ^ w) (2 ^ (w * length xs)) ∙ sym (pow-step w (length xs))))
+
+-- The same of a vector, at any width that divides it.
+module _ (w : ℕ) (whole : w * (128 / w) ≡ 128) where
+  fit : {x : ℕ} → x < 2 ^ 128 → x < 2 ^ (w * (128 / w))
+  fit {x} h = subst⁻¹ (λ (k : ℕ). x < 2 ^ k) whole h
+
+  pub joined-lanes : (x : ℕ) → x < 2 ^ 128 → joined w (lanes w x) ≡ x
+  joined-lanes x h = joined-digits w (128 / w) x (fit h)
+
+  pub lanes-joined : (ds : List ℕ) → length ds ≡ 128 / w → Below (2 ^ w) ds → lanes w (joined w ds) ≡ ds
+  lanes-joined ds e b = ap (λ (n : ℕ). digits w n (joined w ds)) (sym e) ∙ digits-joined w ds b
+
+  pub lanes-determine : (x y : ℕ) → x < 2 ^ 128 → y < 2 ^ 128 → lanes w x ≡ lanes w y → x ≡ y
+  lanes-determine x y hx hy e = determined w (128 / w) x y (fit hx) (fit hy) e

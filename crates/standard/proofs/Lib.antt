@@ -3,3 +3,4 @@ pub mod Bitwise
 pub mod Digits
 pub mod Halves
 pub mod Loop
+pub mod Numbers
