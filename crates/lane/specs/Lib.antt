@@ -1,2 +1,3 @@
 pub mod Lanewise
 pub mod Scalar
+pub mod Widen

@@ -2,11 +2,13 @@
 // called, so the compiler leaves nothing of the choice.
 ghost use mathlib.Core.Path.{_≡_};
 ghost use mathlib.Core.Bool.{cond};
-ghost use Rattle.lane.specs.Lanewise.{unary-of, binary-of};
+ghost use lib.ListN.{take};
+ghost use Rattle.lane.specs.Lanewise.{unaries, unaries8, unaries16, unaries32, binaries, binaries32, unary-of, binary-of};
 use crate::arithmetic::*;
 use crate::compare::*;
 use crate::saturate::*;
 use crate::shift::*;
+use crate::widen::*;
 
 pub const NEG: u8 = 0;
 
@@ -18,7 +20,12 @@ pub const SHR_S: u8 = 3;
 
 pub const SHR_U: u8 = 4;
 
+// Of 8 bits only.
 pub const POPCNT: u8 = 5;
+// Of 16 and 32 bits only.
+pub const EXTADD_S: u8 = 5;
+
+pub const EXTADD_U: u8 = 6;
 
 pub const ADD: u8 = 0;
 
@@ -65,6 +72,8 @@ pub const SUB_SAT_U: u8 = 20;
 pub const AVGR_U: u8 = 21;
 
 pub const Q15MULR_SAT_S: u8 = 22;
+// Of 32 bits only.
+pub const DOT: u8 = 17;
 
 fn pick8(t: bool, a: u8, b: u8) -> u8
     ensures { λ r. ⌜ r ≡ cond t a b ⌝ }
@@ -92,7 +101,7 @@ fn pick64(t: bool, a: u64, b: u64) -> u64
 
 // `count` is for the shifts.
 pub fn unary8(op: u8, count: u32, x: u8) -> u8
-    ensures { λ r. ⌜ r ≡ unary-of 6 8 op count x ⌝ }
+    ensures { λ r. ⌜ r ≡ unary-of (unaries8 count) op x ⌝ }
 {
     match op {
         NEG => neg8(x),
@@ -107,7 +116,7 @@ pub fn unary8(op: u8, count: u32, x: u8) -> u8
 
 // `count` is for the shifts.
 pub fn unary16(op: u8, count: u32, x: u16) -> u16
-    ensures { λ r. ⌜ r ≡ unary-of 5 16 op count x ⌝ }
+    ensures { λ r. ⌜ r ≡ unary-of (unaries16 count) op x ⌝ }
 {
     match op {
         NEG => neg16(x),
@@ -115,13 +124,15 @@ pub fn unary16(op: u8, count: u32, x: u16) -> u16
         SHL => shl16(x, count),
         SHR_S => shr_s16(x, count),
         SHR_U => shr_u16(x, count),
+        EXTADD_S => extadd_s16(x),
+        EXTADD_U => extadd_u16(x),
         _ => 0,
     }
 }
 
 // `count` is for the shifts.
 pub fn unary32(op: u8, count: u32, x: u32) -> u32
-    ensures { λ r. ⌜ r ≡ unary-of 5 32 op count x ⌝ }
+    ensures { λ r. ⌜ r ≡ unary-of (unaries32 count) op x ⌝ }
 {
     match op {
         NEG => neg32(x),
@@ -129,13 +140,15 @@ pub fn unary32(op: u8, count: u32, x: u32) -> u32
         SHL => shl32(x, count),
         SHR_S => shr_s32(x, count),
         SHR_U => shr_u32(x, count),
+        EXTADD_S => extadd_s32(x),
+        EXTADD_U => extadd_u32(x),
         _ => 0,
     }
 }
 
 // `count` is for the shifts.
 pub fn unary64(op: u8, count: u32, x: u64) -> u64
-    ensures { λ r. ⌜ r ≡ unary-of 5 64 op count x ⌝ }
+    ensures { λ r. ⌜ r ≡ unary-of (unaries 64 count) op x ⌝ }
 {
     match op {
         NEG => neg64(x),
@@ -148,7 +161,7 @@ pub fn unary64(op: u8, count: u32, x: u64) -> u64
 }
 
 pub fn binary8(op: u8, a: u8, b: u8) -> u8
-    ensures { λ r. ⌜ r ≡ binary-of 22 8 op a b ⌝ }
+    ensures { λ r. ⌜ r ≡ binary-of (take 22 (binaries 8)) op a b ⌝ }
 {
     match op {
         ADD => std::num::wrapping_add_u8(a, b),
@@ -178,7 +191,7 @@ pub fn binary8(op: u8, a: u8, b: u8) -> u8
 }
 
 pub fn binary16(op: u8, a: u16, b: u16) -> u16
-    ensures { λ r. ⌜ r ≡ binary-of 23 16 op a b ⌝ }
+    ensures { λ r. ⌜ r ≡ binary-of (binaries 16) op a b ⌝ }
 {
     match op {
         ADD => std::num::wrapping_add_u16(a, b),
@@ -209,7 +222,7 @@ pub fn binary16(op: u8, a: u16, b: u16) -> u16
 }
 
 pub fn binary32(op: u8, a: u32, b: u32) -> u32
-    ensures { λ r. ⌜ r ≡ binary-of 17 32 op a b ⌝ }
+    ensures { λ r. ⌜ r ≡ binary-of binaries32 op a b ⌝ }
 {
     match op {
         ADD => std::num::wrapping_add_u32(a, b),
@@ -229,12 +242,13 @@ pub fn binary32(op: u8, a: u32, b: u32) -> u32
         GT_U => pick32(b < a, u32::MAX, 0),
         LE_U => pick32(a <= b, u32::MAX, 0),
         GE_U => pick32(b <= a, u32::MAX, 0),
+        DOT => dot32(a, b),
         _ => 0,
     }
 }
 
 pub fn binary64(op: u8, a: u64, b: u64) -> u64
-    ensures { λ r. ⌜ r ≡ binary-of 9 64 op a b ⌝ }
+    ensures { λ r. ⌜ r ≡ binary-of (take 9 (binaries 64)) op a b ⌝ }
 {
     match op {
         ADD => std::num::wrapping_add_u64(a, b),

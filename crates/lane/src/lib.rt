@@ -6,3 +6,4 @@ pub mod lanewise;
 pub mod reinterpret;
 pub mod saturate;
 pub mod shift;
+pub mod widen;

@@ -8,15 +8,17 @@ pub mod extract;
 pub mod replace;
 pub mod shift;
 pub mod splat;
+pub mod widen;
 
 ghost use mathlib.Core.Path.{_≡_};
 ghost use mathlib.Core.List.{_++_, _∷_, []};
 ghost use Rattle.standard.specs.Lanes.{digits, joined, lanes, unary, binary, splat, extract, replace};
 ghost use Rattle.standard.specs.Refusal.{at-lane};
-ghost use Rattle.lane.specs.Lanewise.{unary-of, binary-of};
+ghost use Rattle.lane.specs.Lanewise.{unaries, unaries8, unaries16, unaries32, binaries, binaries32, unary-of, binary-of};
 ghost use Rattle.simd.specs.Number.{number};
 ghost use Rattle.simd.specs.Answer.{vector-answer};
 ghost use Prim.Native.Nat.{_<_};
+ghost use lib.ListN.{take};
 use answer::LANE;
 use answer::VectorAnswer;
 
@@ -149,7 +151,7 @@ impl V128 {
     }
 
     fn unary8(self, op: u8, count: u32) -> V128
-        ensures { λ r. ⌜ number r ≡ unary 8 (unary-of 6 8 op count) (number self) ⌝ }
+        ensures { λ r. ⌜ number r ≡ unary 8 (unary-of (unaries8 count) op) (number self) ⌝ }
     {
         let mut a = self.lanes8();
         for i in 0..16 {
@@ -159,7 +161,7 @@ impl V128 {
     }
 
     fn binary8(self, rhs: V128, op: u8) -> V128
-        ensures { λ r. ⌜ number r ≡ binary 8 (binary-of 22 8 op) (number self) (number rhs) ⌝ }
+        ensures { λ r. ⌜ number r ≡ binary 8 (binary-of (take 22 (binaries 8)) op) (number self) (number rhs) ⌝ }
     {
         let mut a = self.lanes8();
         let b = rhs.lanes8();
@@ -185,7 +187,7 @@ impl V128 {
     }
 
     fn unary16(self, op: u8, count: u32) -> V128
-        ensures { λ r. ⌜ number r ≡ unary 16 (unary-of 5 16 op count) (number self) ⌝ }
+        ensures { λ r. ⌜ number r ≡ unary 16 (unary-of (unaries16 count) op) (number self) ⌝ }
     {
         let mut a = self.lanes16();
         for i in 0..8 {
@@ -195,7 +197,7 @@ impl V128 {
     }
 
     fn binary16(self, rhs: V128, op: u8) -> V128
-        ensures { λ r. ⌜ number r ≡ binary 16 (binary-of 23 16 op) (number self) (number rhs) ⌝ }
+        ensures { λ r. ⌜ number r ≡ binary 16 (binary-of (binaries 16) op) (number self) (number rhs) ⌝ }
     {
         let mut a = self.lanes16();
         let b = rhs.lanes16();
@@ -221,7 +223,7 @@ impl V128 {
     }
 
     fn unary32(self, op: u8, count: u32) -> V128
-        ensures { λ r. ⌜ number r ≡ unary 32 (unary-of 5 32 op count) (number self) ⌝ }
+        ensures { λ r. ⌜ number r ≡ unary 32 (unary-of (unaries32 count) op) (number self) ⌝ }
     {
         let mut a = self.lanes32();
         for i in 0..4 {
@@ -231,7 +233,7 @@ impl V128 {
     }
 
     fn binary32(self, rhs: V128, op: u8) -> V128
-        ensures { λ r. ⌜ number r ≡ binary 32 (binary-of 17 32 op) (number self) (number rhs) ⌝ }
+        ensures { λ r. ⌜ number r ≡ binary 32 (binary-of binaries32 op) (number self) (number rhs) ⌝ }
     {
         let mut a = self.lanes32();
         let b = rhs.lanes32();
@@ -351,7 +353,7 @@ impl V128 {
     }
 
     fn unary64(self, op: u8, count: u32) -> V128
-        ensures { λ r. ⌜ number r ≡ unary 64 (unary-of 5 64 op count) (number self) ⌝ }
+        ensures { λ r. ⌜ number r ≡ unary 64 (unary-of (unaries 64 count) op) (number self) ⌝ }
     {
         V128 {
             lo: lane::lanewise::unary64(op, count, self.lo),
@@ -360,7 +362,7 @@ impl V128 {
     }
 
     fn binary64(self, rhs: V128, op: u8) -> V128
-        ensures { λ r. ⌜ number r ≡ binary 64 (binary-of 9 64 op) (number self) (number rhs) ⌝ }
+        ensures { λ r. ⌜ number r ≡ binary 64 (binary-of (take 9 (binaries 64)) op) (number self) (number rhs) ⌝ }
     {
         V128 {
             lo: lane::lanewise::binary64(op, self.lo, rhs.lo),

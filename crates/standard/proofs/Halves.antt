@@ -44,7 +44,7 @@ zip-append f [] (y ∷ ys) us vs e = absurd (suc-ne-zero (length ys) (sym e))
 zip-append f (x ∷ xs) [] us vs e = absurd (suc-ne-zero (length xs) e)
 zip-append f (x ∷ xs) (y ∷ ys) us vs e = ap (λ (r : List ℕ). f x y ∷ r) (zip-append f xs ys us vs (suc-inj e))
 
-map-append : (f : ℕ → ℕ) (xs ys : List ℕ) → map f (xs ++ ys) ≡ map f xs ++ map f ys
+pub map-append : (f : ℕ → ℕ) (xs ys : List ℕ) → map f (xs ++ ys) ≡ map f xs ++ map f ys
 map-append f [] ys = refl
 map-append f (x ∷ xs) ys = ap (λ (r : List ℕ). f x ∷ r) (map-append f xs ys)
 

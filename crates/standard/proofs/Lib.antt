@@ -4,3 +4,5 @@ pub mod Digits
 pub mod Halves
 pub mod Loop
 pub mod Numbers
+pub mod Pairs
+pub mod Widths

@@ -57,3 +57,19 @@ module _ (w : ℕ) (f : ℕ → ℕ → ℕ) (x y : ℕ) {xs ys : List ℕ} (ex 
 pub one-list : (w : ℕ) (f : ℕ → ℕ) (x : ℕ) → binary w (λ i j. f i) x x ≡ unary w f x
 unfolding binary unary
 one-list w f x = ap (joined w) (zip-map f (lanes w x))
+
+-- A loop that fills a list with f of the elements of another: `out[i] = f(a[i])`.
+zip-fill : (f : ℕ → ℕ) (zs ys : List ℕ) → length zs ≡ length ys → zip (λ x y. f y) zs ys ≡ map f ys
+zip-fill f [] [] e = refl
+zip-fill f [] (y ∷ ys) e = absurd (suc-ne-zero (length ys) (sym e))
+zip-fill f (z ∷ zs) [] e = absurd (suc-ne-zero (length zs) e)
+zip-fill f (z ∷ zs) (y ∷ ys) e = ap (λ (r : List ℕ). f y ∷ r) (zip-fill f zs ys (suc-inj e))
+
+module _ (n : ℕ) (f : ℕ → ℕ) (zs ys : List ℕ) (lz : length zs ≡ n) (ly : length ys ≡ n) where
+  pub fill-turn : {i r : ℕ} {a : List ℕ} → i < n → a ≡ zipTo (λ x y. f y) i zs ys → r ≡ f (getD ys i 0) → set a i r ≡ zipTo (λ x y. f y) (i + 1) zs ys
+  fill-turn {i} h ea er =
+      rw (er, ea, add-one) (zipTo-turn (λ x y. f y) i zs ys (subst⁻¹ (λ (k : ℕ). i < k) lz h) (subst⁻¹ (λ (k : ℕ). i < k) ly h))
+
+  pub filled : (i : ℕ) {a : List ℕ} → i ≡ n → a ≡ zipTo (λ x y. f y) i zs ys → a ≡ map f ys
+  filled i ei ea =
+      ea ∙ ap (λ (k : ℕ). zipTo (λ x y. f y) k zs ys) (ei ∙ sym lz) ∙ zipTo-all (λ x y. f y) zs ys (lz ∙ sym ly) ∙ zip-fill f zs ys (lz ∙ sym ly)

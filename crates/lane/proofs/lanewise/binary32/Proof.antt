@@ -1,5 +1,6 @@
 -- `lane::lanewise::binary32` meets its contract: each arm by its callee's promise, at the number that led there. Assumes nothing.
 use borrow.Author.Needs.{needs}
+use Rattle.lane.specs.Lanewise.{binaries32}
 use Rattle.lane.proofs.Numbers.{past, no-binary}
 use Rattle.lane.proofs.lanewise.binary32.Statement.{statement}
 use Rattle.lane.proofs.lanewise.binary32.Tie as tie
@@ -73,6 +74,9 @@ pick32-requires-13 c κs = search needs
 pick32-requires-14 : tie.Need-pick32-requires-14
 pick32-requires-14 c κs = search needs
 
+dot32-requires : tie.Need-dot32-requires
+dot32-requires c κs = search needs
+
 returns : tie.Need-returns
 returns c = rw (c .before .match .keys1) (c .wrapping-add-u32 .ensures)
 
@@ -125,7 +129,10 @@ returns-17 : tie.Need-returns-17
 returns-17 c = rw (c .before .match .keys17) (c .pick3214 .ensures)
 
 returns-18 : tie.Need-returns-18
-returns-18 c = no-binary 17 32 (c .before .args .op) (c .before .args .a) (c .before .args .b) (past _ 17 (c .match .rest))
+returns-18 c = rw (c .before .match .keys18) (c .dot32 .ensures)
+
+returns-19 : tie.Need-returns-19
+returns-19 c = no-binary binaries32 _ _ _ (past _ 18 (c .match .rest))
 
 pub binary32-spec : {M : Type 1} → statement M
-binary32-spec = tie.close (tie.spec wrapping-add-u32-requires sub32-requires mul32-requires pick32-requires pick32-requires-2 lt-s32-requires pick32-requires-3 lt-s32-requires-2 pick32-requires-4 le-s32-requires pick32-requires-5 le-s32-requires-2 pick32-requires-6 lt-s32-requires-3 pick32-requires-7 pick32-requires-8 lt-s32-requires-4 pick32-requires-9 pick32-requires-10 pick32-requires-11 pick32-requires-12 pick32-requires-13 pick32-requires-14 returns returns-2 returns-3 returns-4 returns-5 returns-6 returns-7 returns-8 returns-9 returns-10 returns-11 returns-12 returns-13 returns-14 returns-15 returns-16 returns-17 returns-18)
+binary32-spec = tie.close (tie.spec wrapping-add-u32-requires sub32-requires mul32-requires pick32-requires pick32-requires-2 lt-s32-requires pick32-requires-3 lt-s32-requires-2 pick32-requires-4 le-s32-requires pick32-requires-5 le-s32-requires-2 pick32-requires-6 lt-s32-requires-3 pick32-requires-7 pick32-requires-8 lt-s32-requires-4 pick32-requires-9 pick32-requires-10 pick32-requires-11 pick32-requires-12 pick32-requires-13 pick32-requires-14 dot32-requires returns returns-2 returns-3 returns-4 returns-5 returns-6 returns-7 returns-8 returns-9 returns-10 returns-11 returns-12 returns-13 returns-14 returns-15 returns-16 returns-17 returns-18 returns-19)

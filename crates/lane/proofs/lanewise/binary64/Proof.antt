@@ -1,5 +1,7 @@
 -- `lane::lanewise::binary64` meets its contract: each arm by its callee's promise, at the number that led there. Assumes nothing.
 use borrow.Author.Needs.{needs}
+use lib.ListN.{take}
+use Rattle.lane.specs.Lanewise.{binaries}
 use Rattle.lane.proofs.Numbers.{past, no-binary}
 use Rattle.lane.proofs.lanewise.binary64.Statement.{statement}
 use Rattle.lane.proofs.lanewise.binary64.Tie as tie
@@ -71,7 +73,7 @@ returns-9 : tie.Need-returns-9
 returns-9 c = rw (c .before .before .match .keys9, ← c .before .le-s642 .ensures) (c .pick646 .ensures)
 
 returns-10 : tie.Need-returns-10
-returns-10 c = no-binary 9 64 (c .before .args .op) (c .before .args .a) (c .before .args .b) (past _ 9 (c .match .rest))
+returns-10 c = no-binary (take 9 (binaries 64)) _ _ _ (past _ 9 (c .match .rest))
 
 pub binary64-spec : {M : Type 1} → statement M
 binary64-spec = tie.close (tie.spec wrapping-add-u64-requires sub64-requires mul64-requires pick64-requires pick64-requires-2 lt-s64-requires pick64-requires-3 lt-s64-requires-2 pick64-requires-4 le-s64-requires pick64-requires-5 le-s64-requires-2 pick64-requires-6 returns returns-2 returns-3 returns-4 returns-5 returns-6 returns-7 returns-8 returns-9 returns-10)

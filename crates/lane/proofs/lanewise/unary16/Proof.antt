@@ -1,5 +1,6 @@
 -- `lane::lanewise::unary16` meets its contract: each arm by its callee's promise, at the number that led there. Assumes nothing.
 use borrow.Author.Needs.{needs}
+use Rattle.lane.specs.Lanewise.{unaries16}
 use Rattle.lane.proofs.Numbers.{past, no-unary}
 use Rattle.lane.proofs.lanewise.unary16.Statement.{statement}
 use Rattle.lane.proofs.lanewise.unary16.Tie as tie
@@ -19,6 +20,12 @@ shr-s16-requires c κs = search needs
 shr-u16-requires : tie.Need-shr-u16-requires
 shr-u16-requires c κs = search needs
 
+extadd-s16-requires : tie.Need-extadd-s16-requires
+extadd-s16-requires c κs = search needs
+
+extadd-u16-requires : tie.Need-extadd-u16-requires
+extadd-u16-requires c κs = search needs
+
 returns : tie.Need-returns
 returns c = rw (c .before .match .keys1) (c .neg16 .ensures)
 
@@ -35,7 +42,13 @@ returns-5 : tie.Need-returns-5
 returns-5 c = rw (c .before .match .keys5) (c .shr-u16 .ensures)
 
 returns-6 : tie.Need-returns-6
-returns-6 c = no-unary 5 16 (c .before .args .op) (c .before .args .count) (c .before .args .x) (past _ 5 (c .match .rest))
+returns-6 c = rw (c .before .match .keys6) (c .extadd-s16 .ensures)
+
+returns-7 : tie.Need-returns-7
+returns-7 c = rw (c .before .match .keys7) (c .extadd-u16 .ensures)
+
+returns-8 : tie.Need-returns-8
+returns-8 c = no-unary (unaries16 (c .before .args .count)) _ _ (past _ 7 (c .match .rest))
 
 pub unary16-spec : {M : Type 1} → statement M
-unary16-spec = tie.close (tie.spec neg16-requires abs16-requires shl16-requires shr-s16-requires shr-u16-requires returns returns-2 returns-3 returns-4 returns-5 returns-6)
+unary16-spec = tie.close (tie.spec neg16-requires abs16-requires shl16-requires shr-s16-requires shr-u16-requires extadd-s16-requires extadd-u16-requires returns returns-2 returns-3 returns-4 returns-5 returns-6 returns-7 returns-8)

@@ -1,5 +1,6 @@
 -- `lane::lanewise::unary64` meets its contract: each arm by its callee's promise, at the number that led there. Assumes nothing.
 use borrow.Author.Needs.{needs}
+use Rattle.lane.specs.Lanewise.{unaries}
 use Rattle.lane.proofs.Numbers.{past, no-unary}
 use Rattle.lane.proofs.lanewise.unary64.Statement.{statement}
 use Rattle.lane.proofs.lanewise.unary64.Tie as tie
@@ -35,7 +36,7 @@ returns-5 : tie.Need-returns-5
 returns-5 c = rw (c .before .match .keys5) (c .shr-u64 .ensures)
 
 returns-6 : tie.Need-returns-6
-returns-6 c = no-unary 5 64 (c .before .args .op) (c .before .args .count) (c .before .args .x) (past _ 5 (c .match .rest))
+returns-6 c = no-unary (unaries 64 (c .before .args .count)) _ _ (past _ 5 (c .match .rest))
 
 pub unary64-spec : {M : Type 1} → statement M
 unary64-spec = tie.close (tie.spec neg64-requires abs64-requires shl64-requires shr-s64-requires shr-u64-requires returns returns-2 returns-3 returns-4 returns-5 returns-6)

@@ -1,5 +1,6 @@
 -- `lane::lanewise::unary8` meets its contract: each arm by its callee's promise, at the number that led there. Assumes nothing.
 use borrow.Author.Needs.{needs}
+use Rattle.lane.specs.Lanewise.{unaries8}
 use Rattle.lane.proofs.Numbers.{past, no-unary}
 use Rattle.lane.proofs.lanewise.unary8.Statement.{statement}
 use Rattle.lane.proofs.lanewise.unary8.Tie as tie
@@ -41,7 +42,7 @@ returns-6 : tie.Need-returns-6
 returns-6 c = rw (c .before .match .keys6) (c .popcnt8 .ensures)
 
 returns-7 : tie.Need-returns-7
-returns-7 c = no-unary 6 8 (c .before .args .op) (c .before .args .count) (c .before .args .x) (past _ 6 (c .match .rest))
+returns-7 c = no-unary (unaries8 (c .before .args .count)) _ _ (past _ 6 (c .match .rest))
 
 pub unary8-spec : {M : Type 1} → statement M
 unary8-spec = tie.close (tie.spec neg8-requires abs8-requires shl8-requires shr-s8-requires shr-u8-requires popcnt8-requires returns returns-2 returns-3 returns-4 returns-5 returns-6 returns-7)

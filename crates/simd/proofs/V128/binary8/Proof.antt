@@ -2,13 +2,14 @@
 use borrow.Author.Needs.{needs}
 use Prim.Native.Nat.{_≤_, _-_}
 use mathlib.Core.Path.{_≡_, refl, _∙_}
-use Rattle.lane.specs.Lanewise.{binary-of}
+use lib.ListN.{take}
+use Rattle.lane.specs.Lanewise.{binaries, binary-of}
 use Rattle.standard.proofs.Loop.{zipTo, turn, done}
 use Rattle.simd.proofs.V128.binary8.Statement.{statement}
 use Rattle.simd.proofs.V128.binary8.Tie as tie
 
 abbrev Inv-loop : tie.InvT-loop
-Inv-loop op a₀ b i₀ a i = (i ≤ 16) × (a ≡ zipTo (binary-of 22 8 op) i a₀ b)
+Inv-loop op a₀ b i₀ a i = (i ≤ 16) × (a ≡ zipTo (binary-of (take 22 (binaries 8)) op) i a₀ b)
 
 abbrev μ-loop : tie.MeasureT-loop
 μ-loop op a₀ b i₀ a i = 16 - i

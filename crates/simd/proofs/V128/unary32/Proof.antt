@@ -2,13 +2,13 @@
 use borrow.Author.Needs.{needs}
 use Prim.Native.Nat.{_≤_, _-_}
 use mathlib.Core.Path.{_≡_, refl, _∙_}
-use Rattle.lane.specs.Lanewise.{unary-of}
+use Rattle.lane.specs.Lanewise.{unaries32, unary-of}
 use Rattle.standard.proofs.Loop.{zipTo, turn, done, one-list}
 use Rattle.simd.proofs.V128.unary32.Statement.{statement}
 use Rattle.simd.proofs.V128.unary32.Tie as tie
 
 abbrev Inv-loop : tie.InvT-loop
-Inv-loop op count a₀ i₀ a i = (i ≤ 4) × (a ≡ zipTo (λ x y. unary-of 5 32 op count x) i a₀ a₀)
+Inv-loop op count a₀ i₀ a i = (i ≤ 4) × (a ≡ zipTo (λ x y. unary-of (unaries32 count) op x) i a₀ a₀)
 
 abbrev μ-loop : tie.MeasureT-loop
 μ-loop op count a₀ i₀ a i = 4 - i

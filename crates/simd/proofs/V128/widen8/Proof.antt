@@ -1,0 +1,53 @@
+-- `simd::V128::widen8` meets its contract: a loop that fills the wide lanes. Assumes nothing.
+use borrow.Author.Needs.{needs}
+use Prim.Native.Nat.{_≤_, _-_}
+use mathlib.Core.Path.{_≡_, refl, ap, _∙_}
+use lib.ListN.{length}
+use Rattle.standard.specs.Lanes.{joined}
+use Rattle.standard.proofs.Loop.{zipTo, fill-turn, filled}
+use Rattle.standard.proofs.Widths.{widened}
+use Rattle.lane.specs.Widen.{extends}
+use Rattle.simd.proofs.V128.widen8.Statement.{statement}
+use Rattle.simd.proofs.V128.widen8.Tie as tie
+
+abbrev Inv-loop : tie.InvT-loop
+Inv-loop bits signed a out₀ i₀ out i = (i ≤ 8) × (out ≡ zipTo (λ x y. extends signed 8 16 y) i out₀ a)
+
+abbrev μ-loop : tie.MeasureT-loop
+μ-loop bits signed a out₀ i₀ out i = 8 - i
+
+bytes-requires : tie.Need-bytes-requires Inv-loop μ-loop
+bytes-requires c κs = search needs
+
+loop-holds : tie.Need-loop-holds Inv-loop μ-loop
+loop-holds c = (search needs, refl)
+
+array-read-extend8 : tie.Need-array-read-extend8 Inv-loop μ-loop
+array-read-extend8 c = search needs
+
+extend8-requires : tie.Need-extend8-requires Inv-loop μ-loop
+extend8-requires c κs = search needs
+
+mul-out : tie.Need-mul-out Inv-loop μ-loop
+mul-out c = search needs
+
+array-write-out : tie.Need-array-write-out Inv-loop μ-loop
+array-write-out c = search needs
+
+add-i : tie.Need-add-i Inv-loop μ-loop
+add-i c = search needs
+
+loop-less : tie.Need-loop-less Inv-loop μ-loop
+loop-less c = search needs
+
+loop-again : tie.Need-loop-again Inv-loop μ-loop
+loop-again c = (search needs, fill-turn 8 _ _ _ refl (ap length (c .before .before .before .bytes .ensures)) (search needs) (c .before .before .loop .inv .1) (c .extend8 .ensures))
+
+join16-requires : tie.Need-join16-requires Inv-loop μ-loop
+join16-requires c κs = search needs
+
+returns : tie.Need-returns Inv-loop μ-loop
+returns c = c .join16 .ensures ∙ ap (joined 16) (filled 8 _ _ _ refl (ap length (c .before .before .before .bytes .ensures)) (c .before .before .loop .i) (search needs) (c .before .before .loop .inv .1)) ∙ widened 8 _ _ (c .before .before .before .bytes .ensures)
+
+pub widen8-spec : {M : Type 1} → statement M
+widen8-spec = tie.close (tie.spec Inv-loop μ-loop bytes-requires loop-holds array-read-extend8 extend8-requires mul-out array-write-out add-i loop-less loop-again join16-requires returns)

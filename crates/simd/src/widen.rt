@@ -1,0 +1,442 @@
+// Lanes of one width from those of another: extending, extended products and sums, the dot product, narrowing, and what the widening loads do with
+// their bits.
+ghost use mathlib.Core.Path.{_≡_};
+ghost use mathlib.Core.List.{map};
+ghost use Rattle.standard.specs.Integer.{extend-u, extend-s, narrow-u, narrow-s};
+ghost use Rattle.standard.specs.Lanes.{digits, joined, lanes, lowHalf, highHalf};
+ghost use Rattle.standard.specs.Vector.{extend, extmul, extadd-pairwise, dot, narrow, widen};
+ghost use Rattle.lane.specs.Widen.{extends, narrows};
+ghost use Rattle.simd.specs.Number.{number};
+ghost use Rattle.simd.specs.Select.{half-of};
+use crate::V128;
+use crate::half8;
+use crate::half16;
+use lane::lanewise::DOT;
+use lane::lanewise::EXTADD_S;
+use lane::lanewise::EXTADD_U;
+use lane::widen::extend8;
+use lane::widen::extend16;
+use lane::widen::extend32;
+use lane::widen::narrow16;
+use lane::widen::narrow32;
+
+fn bytes(x: u64) -> [u8; 8]
+    ensures { λ r. ⌜ r ≡ digits 8 8 x ⌝ }
+{
+    let x1 = x / 256;
+    let x2 = x1 / 256;
+    let x3 = x2 / 256;
+    let x4 = x3 / 256;
+    let x5 = x4 / 256;
+    let x6 = x5 / 256;
+    let x7 = x6 / 256;
+    [
+        (x % 256) as u8,
+        (x1 % 256) as u8,
+        (x2 % 256) as u8,
+        (x3 % 256) as u8,
+        (x4 % 256) as u8,
+        (x5 % 256) as u8,
+        (x6 % 256) as u8,
+        (x7 % 256) as u8,
+    ]
+}
+
+fn shorts(x: u64) -> [u16; 4]
+    ensures { λ r. ⌜ r ≡ digits 16 4 x ⌝ }
+{
+    let x1 = x / 65536;
+    let x2 = x1 / 65536;
+    let x3 = x2 / 65536;
+    [
+        (x % 65536) as u16,
+        (x1 % 65536) as u16,
+        (x2 % 65536) as u16,
+        (x3 % 65536) as u16,
+    ]
+}
+
+impl V128 {
+    fn widen8(bits: u64, signed: bool) -> V128
+        ensures { λ r. ⌜ number r ≡ widen (extends signed) 8 bits ⌝ }
+    {
+        let a = bytes(bits);
+        let mut out = [0u16; 8];
+        for i in 0..8 {
+            out[i] = extend8(signed, a[i]);
+        }
+        V128::join16(out)
+    }
+
+    fn widen16(bits: u64, signed: bool) -> V128
+        ensures { λ r. ⌜ number r ≡ widen (extends signed) 16 bits ⌝ }
+    {
+        let a = shorts(bits);
+        let mut out = [0u32; 4];
+        for i in 0..4 {
+            out[i] = extend16(signed, a[i]);
+        }
+        V128::join32(out)
+    }
+
+    fn widen32(bits: u64, signed: bool) -> V128
+        ensures { λ r. ⌜ number r ≡ widen (extends signed) 32 bits ⌝ }
+    {
+        V128 {
+            lo: extend32(signed, (bits % 4294967296) as u32),
+            hi: extend32(signed, (bits / 4294967296) as u32),
+        }
+    }
+
+    fn extend8(self, high: bool, signed: bool) -> V128
+        ensures { λ r. ⌜ number r ≡ extend (half-of high) (extends signed) 8 (number self) ⌝ }
+    {
+        if high {
+            V128::widen8(self.hi, signed)
+        } else {
+            V128::widen8(self.lo, signed)
+        }
+    }
+
+    fn extmul8(self, rhs: V128, high: bool, signed: bool) -> V128
+        ensures { λ r. ⌜ number r ≡ extmul (half-of high) (extends signed) 8 (number self) (number rhs) ⌝ }
+    {
+        self.extend8(high, signed)
+            .i16x8_mul(rhs.extend8(high, signed))
+    }
+
+    fn extend16(self, high: bool, signed: bool) -> V128
+        ensures { λ r. ⌜ number r ≡ extend (half-of high) (extends signed) 16 (number self) ⌝ }
+    {
+        if high {
+            V128::widen16(self.hi, signed)
+        } else {
+            V128::widen16(self.lo, signed)
+        }
+    }
+
+    fn extmul16(self, rhs: V128, high: bool, signed: bool) -> V128
+        ensures { λ r. ⌜ number r ≡ extmul (half-of high) (extends signed) 16 (number self) (number rhs) ⌝ }
+    {
+        self.extend16(high, signed)
+            .i32x4_mul(rhs.extend16(high, signed))
+    }
+
+    fn extend32(self, high: bool, signed: bool) -> V128
+        ensures { λ r. ⌜ number r ≡ extend (half-of high) (extends signed) 32 (number self) ⌝ }
+    {
+        if high {
+            V128::widen32(self.hi, signed)
+        } else {
+            V128::widen32(self.lo, signed)
+        }
+    }
+
+    fn extmul32(self, rhs: V128, high: bool, signed: bool) -> V128
+        ensures { λ r. ⌜ number r ≡ extmul (half-of high) (extends signed) 32 (number self) (number rhs) ⌝ }
+    {
+        self.extend32(high, signed)
+            .i64x2_mul(rhs.extend32(high, signed))
+    }
+
+    // The lanes of 16 bits, narrowed to a half.
+    fn narrowed16(self, signed: bool) -> u64
+        ensures { λ r. ⌜ r ≡ joined 8 (map (narrows signed 16 8) (lanes 16 (number self))) ⌝ }
+    {
+        let a = self.lanes16();
+        let mut out = [0u8; 8];
+        for i in 0..8 {
+            out[i] = narrow16(signed, a[i]);
+        }
+        half8(
+            out[0],
+            out[1],
+            out[2],
+            out[3],
+            out[4],
+            out[5],
+            out[6],
+            out[7],
+        )
+    }
+
+    fn narrow16(self, high: V128, signed: bool) -> V128
+        ensures { λ r. ⌜ number r ≡ narrow (narrows signed) 8 (number self) (number high) ⌝ }
+    {
+        V128 {
+            lo: self.narrowed16(signed),
+            hi: high.narrowed16(signed),
+        }
+    }
+
+    // The lanes of 32 bits, narrowed to a half.
+    fn narrowed32(self, signed: bool) -> u64
+        ensures { λ r. ⌜ r ≡ joined 16 (map (narrows signed 32 16) (lanes 32 (number self))) ⌝ }
+    {
+        let a = self.lanes32();
+        let mut out = [0u16; 4];
+        for i in 0..4 {
+            out[i] = narrow32(signed, a[i]);
+        }
+        half16(out[0], out[1], out[2], out[3])
+    }
+
+    fn narrow32(self, high: V128, signed: bool) -> V128
+        ensures { λ r. ⌜ number r ≡ narrow (narrows signed) 16 (number self) (number high) ⌝ }
+    {
+        V128 {
+            lo: self.narrowed32(signed),
+            hi: high.narrowed32(signed),
+        }
+    }
+
+    pub fn i16x8_extend_low_i8x16_s(self) -> V128
+        ensures { λ r. ⌜ number r ≡ extend lowHalf extend-s 8 (number self) ⌝ }
+    {
+        self.extend8(false, true)
+    }
+
+    pub fn i16x8_extend_low_i8x16_u(self) -> V128
+        ensures { λ r. ⌜ number r ≡ extend lowHalf extend-u 8 (number self) ⌝ }
+    {
+        self.extend8(false, false)
+    }
+
+    pub fn i32x4_extend_low_i16x8_s(self) -> V128
+        ensures { λ r. ⌜ number r ≡ extend lowHalf extend-s 16 (number self) ⌝ }
+    {
+        self.extend16(false, true)
+    }
+
+    pub fn i32x4_extend_low_i16x8_u(self) -> V128
+        ensures { λ r. ⌜ number r ≡ extend lowHalf extend-u 16 (number self) ⌝ }
+    {
+        self.extend16(false, false)
+    }
+
+    pub fn i64x2_extend_low_i32x4_s(self) -> V128
+        ensures { λ r. ⌜ number r ≡ extend lowHalf extend-s 32 (number self) ⌝ }
+    {
+        self.extend32(false, true)
+    }
+
+    pub fn i64x2_extend_low_i32x4_u(self) -> V128
+        ensures { λ r. ⌜ number r ≡ extend lowHalf extend-u 32 (number self) ⌝ }
+    {
+        self.extend32(false, false)
+    }
+
+    pub fn i16x8_extend_high_i8x16_s(self) -> V128
+        ensures { λ r. ⌜ number r ≡ extend highHalf extend-s 8 (number self) ⌝ }
+    {
+        self.extend8(true, true)
+    }
+
+    pub fn i16x8_extend_high_i8x16_u(self) -> V128
+        ensures { λ r. ⌜ number r ≡ extend highHalf extend-u 8 (number self) ⌝ }
+    {
+        self.extend8(true, false)
+    }
+
+    pub fn i32x4_extend_high_i16x8_s(self) -> V128
+        ensures { λ r. ⌜ number r ≡ extend highHalf extend-s 16 (number self) ⌝ }
+    {
+        self.extend16(true, true)
+    }
+
+    pub fn i32x4_extend_high_i16x8_u(self) -> V128
+        ensures { λ r. ⌜ number r ≡ extend highHalf extend-u 16 (number self) ⌝ }
+    {
+        self.extend16(true, false)
+    }
+
+    pub fn i64x2_extend_high_i32x4_s(self) -> V128
+        ensures { λ r. ⌜ number r ≡ extend highHalf extend-s 32 (number self) ⌝ }
+    {
+        self.extend32(true, true)
+    }
+
+    pub fn i64x2_extend_high_i32x4_u(self) -> V128
+        ensures { λ r. ⌜ number r ≡ extend highHalf extend-u 32 (number self) ⌝ }
+    {
+        self.extend32(true, false)
+    }
+
+    pub fn i16x8_extmul_low_i8x16_s(self, rhs: V128) -> V128
+        ensures { λ r. ⌜ number r ≡ extmul lowHalf extend-s 8 (number self) (number rhs) ⌝ }
+    {
+        self.extmul8(rhs, false, true)
+    }
+
+    pub fn i16x8_extmul_low_i8x16_u(self, rhs: V128) -> V128
+        ensures { λ r. ⌜ number r ≡ extmul lowHalf extend-u 8 (number self) (number rhs) ⌝ }
+    {
+        self.extmul8(rhs, false, false)
+    }
+
+    pub fn i32x4_extmul_low_i16x8_s(self, rhs: V128) -> V128
+        ensures { λ r. ⌜ number r ≡ extmul lowHalf extend-s 16 (number self) (number rhs) ⌝ }
+    {
+        self.extmul16(rhs, false, true)
+    }
+
+    pub fn i32x4_extmul_low_i16x8_u(self, rhs: V128) -> V128
+        ensures { λ r. ⌜ number r ≡ extmul lowHalf extend-u 16 (number self) (number rhs) ⌝ }
+    {
+        self.extmul16(rhs, false, false)
+    }
+
+    pub fn i64x2_extmul_low_i32x4_s(self, rhs: V128) -> V128
+        ensures { λ r. ⌜ number r ≡ extmul lowHalf extend-s 32 (number self) (number rhs) ⌝ }
+    {
+        self.extmul32(rhs, false, true)
+    }
+
+    pub fn i64x2_extmul_low_i32x4_u(self, rhs: V128) -> V128
+        ensures { λ r. ⌜ number r ≡ extmul lowHalf extend-u 32 (number self) (number rhs) ⌝ }
+    {
+        self.extmul32(rhs, false, false)
+    }
+
+    pub fn i16x8_extmul_high_i8x16_s(self, rhs: V128) -> V128
+        ensures { λ r. ⌜ number r ≡ extmul highHalf extend-s 8 (number self) (number rhs) ⌝ }
+    {
+        self.extmul8(rhs, true, true)
+    }
+
+    pub fn i16x8_extmul_high_i8x16_u(self, rhs: V128) -> V128
+        ensures { λ r. ⌜ number r ≡ extmul highHalf extend-u 8 (number self) (number rhs) ⌝ }
+    {
+        self.extmul8(rhs, true, false)
+    }
+
+    pub fn i32x4_extmul_high_i16x8_s(self, rhs: V128) -> V128
+        ensures { λ r. ⌜ number r ≡ extmul highHalf extend-s 16 (number self) (number rhs) ⌝ }
+    {
+        self.extmul16(rhs, true, true)
+    }
+
+    pub fn i32x4_extmul_high_i16x8_u(self, rhs: V128) -> V128
+        ensures { λ r. ⌜ number r ≡ extmul highHalf extend-u 16 (number self) (number rhs) ⌝ }
+    {
+        self.extmul16(rhs, true, false)
+    }
+
+    pub fn i64x2_extmul_high_i32x4_s(self, rhs: V128) -> V128
+        ensures { λ r. ⌜ number r ≡ extmul highHalf extend-s 32 (number self) (number rhs) ⌝ }
+    {
+        self.extmul32(rhs, true, true)
+    }
+
+    pub fn i64x2_extmul_high_i32x4_u(self, rhs: V128) -> V128
+        ensures { λ r. ⌜ number r ≡ extmul highHalf extend-u 32 (number self) (number rhs) ⌝ }
+    {
+        self.extmul32(rhs, true, false)
+    }
+
+    pub fn i16x8_extadd_pairwise_i8x16_s(self) -> V128
+        ensures { λ r. ⌜ number r ≡ extadd-pairwise extend-s 8 (number self) ⌝ }
+    {
+        self.unary16(EXTADD_S, 0)
+    }
+
+    pub fn i16x8_extadd_pairwise_i8x16_u(self) -> V128
+        ensures { λ r. ⌜ number r ≡ extadd-pairwise extend-u 8 (number self) ⌝ }
+    {
+        self.unary16(EXTADD_U, 0)
+    }
+
+    pub fn i32x4_extadd_pairwise_i16x8_s(self) -> V128
+        ensures { λ r. ⌜ number r ≡ extadd-pairwise extend-s 16 (number self) ⌝ }
+    {
+        self.unary32(EXTADD_S, 0)
+    }
+
+    pub fn i32x4_extadd_pairwise_i16x8_u(self) -> V128
+        ensures { λ r. ⌜ number r ≡ extadd-pairwise extend-u 16 (number self) ⌝ }
+    {
+        self.unary32(EXTADD_U, 0)
+    }
+
+    pub fn i32x4_dot_i16x8_s(self, rhs: V128) -> V128
+        ensures { λ r. ⌜ number r ≡ dot (number self) (number rhs) ⌝ }
+    {
+        self.binary32(rhs, DOT)
+    }
+
+    pub fn i8x16_narrow_i16x8_s(self, high: V128) -> V128
+        ensures { λ r. ⌜ number r ≡ narrow narrow-s 8 (number self) (number high) ⌝ }
+    {
+        self.narrow16(high, true)
+    }
+
+    pub fn i8x16_narrow_i16x8_u(self, high: V128) -> V128
+        ensures { λ r. ⌜ number r ≡ narrow narrow-u 8 (number self) (number high) ⌝ }
+    {
+        self.narrow16(high, false)
+    }
+
+    pub fn i16x8_narrow_i32x4_s(self, high: V128) -> V128
+        ensures { λ r. ⌜ number r ≡ narrow narrow-s 16 (number self) (number high) ⌝ }
+    {
+        self.narrow32(high, true)
+    }
+
+    pub fn i16x8_narrow_i32x4_u(self, high: V128) -> V128
+        ensures { λ r. ⌜ number r ≡ narrow narrow-u 16 (number self) (number high) ⌝ }
+    {
+        self.narrow32(high, false)
+    }
+
+    pub fn v128_widen8x8_s(bits: u64) -> V128
+        ensures { λ r. ⌜ number r ≡ widen extend-s 8 bits ⌝ }
+    {
+        V128::widen8(bits, true)
+    }
+
+    pub fn v128_widen8x8_u(bits: u64) -> V128
+        ensures { λ r. ⌜ number r ≡ widen extend-u 8 bits ⌝ }
+    {
+        V128::widen8(bits, false)
+    }
+
+    pub fn v128_widen16x4_s(bits: u64) -> V128
+        ensures { λ r. ⌜ number r ≡ widen extend-s 16 bits ⌝ }
+    {
+        V128::widen16(bits, true)
+    }
+
+    pub fn v128_widen16x4_u(bits: u64) -> V128
+        ensures { λ r. ⌜ number r ≡ widen extend-u 16 bits ⌝ }
+    {
+        V128::widen16(bits, false)
+    }
+
+    pub fn v128_widen32x2_s(bits: u64) -> V128
+        ensures { λ r. ⌜ number r ≡ widen extend-s 32 bits ⌝ }
+    {
+        V128::widen32(bits, true)
+    }
+
+    pub fn v128_widen32x2_u(bits: u64) -> V128
+        ensures { λ r. ⌜ number r ≡ widen extend-u 32 bits ⌝ }
+    {
+        V128::widen32(bits, false)
+    }
+
+    // What v128.load32_zero and v128.load64_zero give for these bits: the other lanes are 0.
+    pub fn v128_low32_zero(bits: u32) -> V128
+        ensures { λ r. ⌜ number r ≡ extend-u 32 128 bits ⌝ }
+    {
+        V128 {
+            lo: bits as u64,
+            hi: 0,
+        }
+    }
+
+    pub fn v128_low64_zero(bits: u64) -> V128
+        ensures { λ r. ⌜ number r ≡ extend-u 64 128 bits ⌝ }
+    {
+        V128 { lo: bits, hi: 0 }
+    }
+}

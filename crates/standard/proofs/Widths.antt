@@ -1,0 +1,86 @@
+-- Lanes of one width from those of another: widening, the halves of the lanes, products of extended lanes, narrowing.
+-- Assumes nothing.
+use mathlib.Core.Path.{_≡_, sym, ap, ap₂, _∙_}
+use mathlib.Core.List.{List, [], _∷_, _++_, map}
+use Prim.Native.Nat.{ℕ, _+_, _*_, _/_, _%_, _^_, _<_}
+use native.Mathlib.Nat.{add-zero, mod-lt, lt-of-lt-of-le}
+use native.Mathlib.Omega.{arith}
+use lib.IntN.{ℤ, pos, negsuc}
+use lib.ListN.{length, length-append, length-map}
+use lib.Pow.{pow-pos, pow-mono, shr-mod}
+use lib.Seq.{take-at, drop-at}
+use Rattle.standard.specs.Lanes.{digits, joined, lanes, zip, binary, lowHalf, highHalf}
+use Rattle.standard.specs.Integer.{signed, modulo, imul, extend-u, extend-s}
+use Rattle.standard.specs.Vector.{extend, extmul, narrow, widen}
+use Rattle.standard.proofs.Digits.{Below, digits-below, length-digits, lanes-joined}
+use Rattle.standard.proofs.Halves.{lanes-halves, joined-halves, map-append}
+
+-- the halves of a list in two parts of one length
+halves-of : (xs ys : List ℕ) → length xs ≡ length ys → (lowHalf (xs ++ ys) ≡ xs) × (highHalf (xs ++ ys) ≡ ys)
+halves-of xs ys e =
+    let m : length xs ≡ length (xs ++ ys) / 2 = omega (arith, length-append xs ys) in
+    (take-at xs ys (length (xs ++ ys) / 2) m, drop-at xs ys (length (xs ++ ys) / 2) m)
+
+module _ (w n : ℕ) (half : w * n ≡ 64) (whole : n + n ≡ 128 / w) (count : 64 / w ≡ n) (sx : ℕ → ℕ → ℕ → ℕ) (a b : ℕ) (ha : a < 2 ^ 64) where
+  pub parts : (lowHalf (lanes w (a + 2 ^ 64 * b)) ≡ digits w n a) × (highHalf (lanes w (a + 2 ^ 64 * b)) ≡ digits w n b)
+  parts = rw (lanes-halves w n half whole a b ha) (halves-of (digits w n a) (digits w n b) (length-digits w n a ∙ sym (length-digits w n b)))
+
+  pub extend-low : widen sx w a ≡ extend lowHalf sx w (a + 2 ^ 64 * b)
+  unfolding widen extend
+  extend-low = ap (λ (ds : List ℕ). joined (2 * w) (map (sx w (2 * w)) ds)) (ap (λ (k : ℕ). digits w k a) count ∙ sym (parts .0))
+
+  pub extend-high : widen sx w b ≡ extend highHalf sx w (a + 2 ^ 64 * b)
+  unfolding widen extend
+  extend-high = ap (λ (ds : List ℕ). joined (2 * w) (map (sx w (2 * w)) ds)) (ap (λ (k : ℕ). digits w k b) count ∙ sym (parts .1))
+
+-- Extended lanes fit the double width.
+modulo-lt : (n : ℕ) (z : ℤ) → modulo n z < 2 ^ n
+modulo-lt n (pos i) = mod-lt i (pow-pos n)
+modulo-lt n (negsuc i) = omega (arith, pow-pos n)
+
+pub extend-u-lt : (w a : ℕ) → a < 2 ^ w → extend-u w (2 * w) a < 2 ^ (2 * w)
+extend-u-lt w a h = lt-of-lt-of-le h (pow-mono (omega arith))
+
+pub extend-s-lt : (w a : ℕ) → a < 2 ^ w → extend-s w (2 * w) a < 2 ^ (2 * w)
+extend-s-lt w a h = modulo-lt (2 * w) (signed w a)
+
+below-map : (b c : ℕ) (f : ℕ → ℕ) → ((d : ℕ) → d < b → f d < c) → (ds : List ℕ) → Below b ds → Below c (map f ds)
+below-map b c f lt [] u = tt
+below-map b c f lt (d ∷ ds) u = (lt d (u .0), below-map b c f lt ds (u .1))
+
+module _ (w n : ℕ) (sx : ℕ → ℕ → ℕ → ℕ) (lt : (a : ℕ) → a < 2 ^ w → sx w (2 * w) a < 2 ^ (2 * w)) (whole : 2 * w * (128 / (2 * w)) ≡ 128) (count : n ≡ 128 / (2 * w)) where
+  -- the lanes of an extended vector are the extended lanes
+  extended : (half : List ℕ → List ℕ) (x k : ℕ) → half (lanes w x) ≡ digits w n k → lanes (2 * w) (extend half sx w x) ≡ map (sx w (2 * w)) (half (lanes w x))
+  unfolding extend
+  extended half x k e =
+      rw e
+      (lanes-joined (2 * w) whole (map (sx w (2 * w)) (digits w n k))
+      (length-map (digits w n k) (sx w (2 * w)) ∙ length-digits w n k ∙ count)
+      (below-map (2 ^ w) (2 ^ (2 * w)) (sx w (2 * w)) lt (digits w n k) (digits-below w n k)))
+
+  -- a product of extended lanes is the product of the extended vectors
+  pub products : (half : List ℕ → List ℕ) (x y j k : ℕ) → half (lanes w x) ≡ digits w n j → half (lanes w y) ≡ digits w n k
+      → binary (2 * w) (imul (2 * w)) (extend half sx w x) (extend half sx w y) ≡ extmul half sx w x y
+  unfolding binary extmul
+  products half x y j k ej ek = ap₂ (λ (p q : List ℕ). joined (2 * w) (zip (imul (2 * w)) p q)) (extended half x j ej) (extended half y k ek)
+
+-- A narrowed vector: the first vector gives the low half.
+pub narrow-halves : (w n : ℕ) → w * n ≡ 64 → 128 / (2 * w) ≡ n → (sx : ℕ → ℕ → ℕ → ℕ) (x y : ℕ) {lo hi : ℕ}
+    → lo ≡ joined w (map (sx (2 * w) w) (lanes (2 * w) x)) → hi ≡ joined w (map (sx (2 * w) w) (lanes (2 * w) y)) → lo + 2 ^ 64 * hi ≡ narrow sx w x y
+unfolding narrow
+narrow-halves w n half count sx x y el eh =
+    ap₂ (λ (l h : ℕ). l + 2 ^ 64 * h) el eh
+    ∙ sym (joined-halves w n half (map (sx (2 * w) w) (lanes (2 * w) x)) (map (sx (2 * w) w) (lanes (2 * w) y))
+    (length-map (lanes (2 * w) x) (sx (2 * w) w) ∙ length-digits (2 * w) (128 / (2 * w)) x ∙ count))
+    ∙ ap (joined w) (sym (map-append (sx (2 * w) w) (lanes (2 * w) x) (lanes (2 * w) y)))
+
+-- Widening, from the list of digits; and of two digits of 32 bits.
+pub widened : (w : ℕ) (sx : ℕ → ℕ → ℕ → ℕ) (x : ℕ) {ds : List ℕ} → ds ≡ digits w (64 / w) x → joined (2 * w) (map (sx w (2 * w)) ds) ≡ widen sx w x
+unfolding widen
+widened w sx x e = ap (λ (ds : List ℕ). joined (2 * w) (map (sx w (2 * w)) ds)) e
+
+pub widened-32 : (sx : ℕ → ℕ → ℕ → ℕ) (x : ℕ) → x < 2 ^ 64 → {lo hi : ℕ} → lo ≡ sx 32 64 (x % 2 ^ 32) → hi ≡ sx 32 64 (x / 2 ^ 32) → lo + 2 ^ 64 * hi ≡ widen sx 32 x
+unfolding widen
+widened-32 sx x h el eh =
+    ap₂ (λ (l h : ℕ). l + 2 ^ 64 * h) el
+    (eh ∙ ap (sx 32 64) (sym (shr-mod 32 32 h)) ∙ sym (add-zero (sx 32 64 (x / 2 ^ 32 % 2 ^ 32))))
