@@ -1,4 +1,5 @@
 pub mod Numbers
+pub mod FloatOrder
 pub mod Magnitude
 pub mod Nan
 pub mod Negation

@@ -1,19 +1,23 @@
--- NaNs, over both float formats: which patterns are one, which values, and that any other pattern is the number's own.
+-- NaNs, over both float formats: what a test for one says, which values are one, and that any other pattern is the number's own.
 -- Assumes nothing.
-use mathlib.Core.Path.{_≡_, refl, sym, ap, _∙_, subst, subst⁻¹}
-use mathlib.Core.Bool.{Bool, true, false, not, _&&_, _||_, Bool·beq}
-use Prim.Native.Nat.{ℕ, _+_, _*_, _/_, _%_, _<_, _≤_}
-use borrow.Author.Tests.{le-ltb, eq-eqb}
-use lib.Dec.{T, ltb, eqb}
+use mathlib.Core.Path.{_≡_, refl, sym, _∙_, subst, subst⁻¹}
+use mathlib.Core.Bool.{Bool, true, false, not, Bool·beq}
+use Prim.Native.Nat.{ℕ, _+_, _*_, _/_, _<_}
+use borrow.Author.Tests.{eq-eqb}
+use lib.Dec.{T}
 use lib.Ieee
 use lib.Ieee.{Float, nan, inf, fin, Format, top, ones, hid, ofBits, toBits, nanBits, isNan}
-use lib.Ieee.Bits.{nanBits-is, nanBits-above, toBits-ofBits}
+use lib.Ieee.Bits.{nanBits-is, toBits-ofBits}
 
-pub no-nan : (f : Format) (n : ℕ) → n % top f ≤ ones f * hid f → T (not (nanBits f n))
-no-nan f n h = subst⁻¹ (λ (b : Bool). T (not b)) (nanBits-above f n ∙ le-ltb _ _ h) tt
+-- what a test of the code says of the claim that it decides
+pub holds : {t u : Bool} → t ≡ u → t ≡ true → T u
+holds e h = subst T (sym h ∙ e) tt
 
-pub own-bits : (f : Format) (n : ℕ) → n < 2 * top f → n % top f ≤ ones f * hid f → toBits f (ofBits f n) ≡ n
-own-bits f n h k = toBits-ofBits f n h (subst (λ (b : Bool). T (not b)) (nanBits-is f n) (no-nan f n k))
+pub fails : {t u : Bool} → t ≡ u → t ≡ false → T (not u)
+fails e h = subst (λ (b : Bool). T (not b)) (sym h ∙ e) tt
+
+pub own-bits : (f : Format) (n : ℕ) → n < 2 * top f → T (not (nanBits f n)) → toBits f (ofBits f n) ≡ n
+own-bits f n h k = toBits-ofBits f n h (subst (λ (b : Bool). T (not b)) (nanBits-is f n) k)
 
 -- a value differs from itself exactly where it is a NaN
 beq-self : (s : Bool) → Bool·beq s s ≡ true

@@ -1,6 +1,6 @@
--- Negation and absolute value of a signed lane, over the width.
+-- Negation, absolute value and sign bit of a signed lane, over the width.
 -- Assumes nothing.
-use mathlib.Core.Path.{_≡_, sym, ap, _∙_, subst⁻¹}
+use mathlib.Core.Path.{_≡_, refl, sym, ap, _∙_, subst⁻¹}
 use mathlib.Core.Bool.{Bool, true, false, cond}
 use Prim.Native.Nat.{ℕ, zero, suc, _-_, _*_, _%_, _^_, _<_}
 use native.Mathlib.Nat.{sub-zero, zero-mod, mod-self, mod-eq-of-lt, not-suc-le-zero}
@@ -35,8 +35,8 @@ negation w (negsuc n) f ne =
 
 sign : (z : ℤ) (b : Bool) → ltZ z (pos 0) ≡ b → nonNeg z ≡ cond b false true
 sign (pos n) true t = absurd (not-suc-le-zero (ltb-true n 0 t))
-sign (pos n) false t = mathlib.Core.Path.refl
-sign (negsuc n) true t = mathlib.Core.Path.refl
+sign (pos n) false t = refl
+sign (negsuc n) true t = refl
 sign (negsuc n) false t = absurd (subst⁻¹ T (sym t) tt)
 
 -- r is the signed reading of the lane x
@@ -65,5 +65,12 @@ module _ (w : Width) (x : ℕ) {r : ℤ} (f : Fits w x) (e : r ≡ signed (bits 
   abs-is b t = rw (← e, sign r b (rw (toZ-ofZ held) at t)) (pick b)
     where
       pick : (b : Bool) → cond b (ineg (bits w) x) x ≡ cond (cond b false true) x (ineg (bits w) x)
-      pick true = mathlib.Core.Path.refl
-      pick false = mathlib.Core.Path.refl
+      pick true = refl
+      pick false = refl
+
+  pub sign-is : (b : Bool) → ltZ (toZ w (ofZ w r)) (pos 0) ≡ b → _≡_ {A = ℕ} (cond b 1 0) (cond (nonNeg (signed (bits w) x)) 0 1)
+  sign-is b t = rw (← e, sign r b (rw (toZ-ofZ held) at t)) (pick b)
+    where
+      pick : (b : Bool) → _≡_ {A = ℕ} (cond b 1 0) (cond (cond b false true) 0 1)
+      pick true = refl
+      pick false = refl

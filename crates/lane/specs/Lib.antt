@@ -1,3 +1,4 @@
 pub mod Lanewise
+pub mod LanewiseFloat
 pub mod Scalar
 pub mod Widen

@@ -1,6 +1,7 @@
-// The order of two lanes by their signed readings.
+// The order of two lanes by their signed readings, and a lane's sign bit.
 ghost use mathlib.Core.Path.{_≡_};
-ghost use lib.Signed.{ltZ, leZ};
+ghost use mathlib.Core.Bool.{cond};
+ghost use lib.Signed.{ltZ, leZ, nonNeg};
 ghost use Rattle.standard.specs.Integer.{signed};
 use crate::reinterpret::signed8;
 use crate::reinterpret::signed16;
@@ -53,4 +54,28 @@ pub fn le_s64(a: u64, b: u64) -> bool
     ensures { λ r. ⌜ r ≡ leZ (signed 64 a) (signed 64 b) ⌝ }
 {
     signed64(a) <= signed64(b)
+}
+
+pub fn sign8(x: u8) -> u8
+    ensures { λ r. ⌜ r ≡ cond (nonNeg (signed 8 x)) 0 1 ⌝ }
+{
+    if signed8(x) < 0 { 1 } else { 0 }
+}
+
+pub fn sign16(x: u16) -> u8
+    ensures { λ r. ⌜ r ≡ cond (nonNeg (signed 16 x)) 0 1 ⌝ }
+{
+    if signed16(x) < 0 { 1 } else { 0 }
+}
+
+pub fn sign32(x: u32) -> u8
+    ensures { λ r. ⌜ r ≡ cond (nonNeg (signed 32 x)) 0 1 ⌝ }
+{
+    if signed32(x) < 0 { 1 } else { 0 }
+}
+
+pub fn sign64(x: u64) -> u8
+    ensures { λ r. ⌜ r ≡ cond (nonNeg (signed 64 x)) 0 1 ⌝ }
+{
+    if signed64(x) < 0 { 1 } else { 0 }
 }

@@ -87,13 +87,13 @@ fn pick16(t: bool, a: u16, b: u16) -> u16
     if t { a } else { b }
 }
 
-fn pick32(t: bool, a: u32, b: u32) -> u32
+pub fn pick32(t: bool, a: u32, b: u32) -> u32
     ensures { λ r. ⌜ r ≡ cond t a b ⌝ }
 {
     if t { a } else { b }
 }
 
-fn pick64(t: bool, a: u64, b: u64) -> u64
+pub fn pick64(t: bool, a: u64, b: u64) -> u64
     ensures { λ r. ⌜ r ≡ cond t a b ⌝ }
 {
     if t { a } else { b }

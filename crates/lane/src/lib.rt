@@ -3,6 +3,7 @@ pub mod arithmetic;
 pub mod compare;
 pub mod float;
 pub mod lanewise;
+pub mod lanewise_float;
 pub mod reinterpret;
 pub mod saturate;
 pub mod shift;

@@ -6,6 +6,9 @@ use lane::float::F64;
 // Refusal 4: "lane not below the lane count".
 pub const LANE: u8 = 4;
 
+// Refusal 5: "a shuffle index above 31".
+pub const INDEX: u8 = 5;
+
 pub enum VectorAnswer {
     Vector(V128),
     Refused(u8),

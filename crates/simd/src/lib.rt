@@ -5,6 +5,9 @@ pub mod arithmetic;
 pub mod bitwise;
 pub mod compare;
 pub mod extract;
+pub mod float;
+pub mod rearrange;
+pub mod reduce;
 pub mod replace;
 pub mod shift;
 pub mod splat;
@@ -12,13 +15,15 @@ pub mod widen;
 
 ghost use mathlib.Core.Path.{_≡_};
 ghost use mathlib.Core.List.{_++_, _∷_, []};
+ghost use Prim.Native.Nat.{_<_};
+ghost use lib.Ieee.{binary32, binary64};
+ghost use lib.ListN.{take};
 ghost use Rattle.standard.specs.Lanes.{digits, joined, lanes, unary, binary, splat, extract, replace};
 ghost use Rattle.standard.specs.Refusal.{at-lane};
 ghost use Rattle.lane.specs.Lanewise.{unaries, unaries8, unaries16, unaries32, binaries, binaries32, unary-of, binary-of};
+ghost use Rattle.lane.specs.LanewiseFloat.{float-unary-of, float-binary-of};
 ghost use Rattle.simd.specs.Number.{number};
 ghost use Rattle.simd.specs.Answer.{vector-answer};
-ghost use Prim.Native.Nat.{_<_};
-ghost use lib.ListN.{take};
 use answer::LANE;
 use answer::VectorAnswer;
 
@@ -243,6 +248,27 @@ impl V128 {
         V128::join32(a)
     }
 
+    fn float_unary32(self, op: u8) -> V128
+        ensures { λ r. ⌜ number r ≡ unary 32 (float-unary-of binary32 op) (number self) ⌝ }
+    {
+        let mut a = self.lanes32();
+        for i in 0..4 {
+            a[i] = lane::lanewise_float::float_unary32(op, a[i]);
+        }
+        V128::join32(a)
+    }
+
+    fn float_binary32(self, rhs: V128, op: u8) -> V128
+        ensures { λ r. ⌜ number r ≡ binary 32 (float-binary-of binary32 op) (number self) (number rhs) ⌝ }
+    {
+        let mut a = self.lanes32();
+        let b = rhs.lanes32();
+        for i in 0..4 {
+            a[i] = lane::lanewise_float::float_binary32(op, a[i], b[i]);
+        }
+        V128::join32(a)
+    }
+
     fn splat8(x: u8) -> V128
         ensures { λ r. ⌜ number r ≡ splat 8 x ⌝ }
     {
@@ -367,6 +393,24 @@ impl V128 {
         V128 {
             lo: lane::lanewise::binary64(op, self.lo, rhs.lo),
             hi: lane::lanewise::binary64(op, self.hi, rhs.hi),
+        }
+    }
+
+    fn float_unary64(self, op: u8) -> V128
+        ensures { λ r. ⌜ number r ≡ unary 64 (float-unary-of binary64 op) (number self) ⌝ }
+    {
+        V128 {
+            lo: lane::lanewise_float::float_unary64(op, self.lo),
+            hi: lane::lanewise_float::float_unary64(op, self.hi),
+        }
+    }
+
+    fn float_binary64(self, rhs: V128, op: u8) -> V128
+        ensures { λ r. ⌜ number r ≡ binary 64 (float-binary-of binary64 op) (number self) (number rhs) ⌝ }
+    {
+        V128 {
+            lo: lane::lanewise_float::float_binary64(op, self.lo, rhs.lo),
+            hi: lane::lanewise_float::float_binary64(op, self.hi, rhs.hi),
         }
     }
 }

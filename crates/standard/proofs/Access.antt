@@ -28,7 +28,7 @@ unfolding splat
 splat-64 c = ap (λ (d : ℕ). c + 2 ^ 64 * d) (sym (add-zero c))
 
 module _ (a b : ℕ) (ha : a < 2 ^ 64) (hb : b < 2 ^ 64) where
-  two-lanes : lanes 64 (a + 2 ^ 64 * b) ≡ a ∷ b ∷ []
+  pub two-lanes : lanes 64 (a + 2 ^ 64 * b) ≡ a ∷ b ∷ []
   two-lanes = ap₂ (λ (l h : ℕ). l ∷ h ∷ []) (low-digit 64 a b ha) (rw (rest-digits 64 a b ha) (mod-eq-of-lt hb))
 
   pub extract-low : a ≡ extract 64 (a + 2 ^ 64 * b) 0

@@ -5,4 +5,6 @@ pub mod Halves
 pub mod Loop
 pub mod Numbers
 pub mod Pairs
+pub mod Rearrange
+pub mod Reduce
 pub mod Widths

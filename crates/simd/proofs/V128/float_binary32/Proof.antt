@@ -1,0 +1,63 @@
+-- `simd::V128::float_binary32` meets its contract: a loop over the lanes. Assumes nothing.
+use borrow.Author.Needs.{needs}
+use Prim.Native.Nat.{_≤_, _-_}
+use mathlib.Core.Path.{_≡_, refl, _∙_}
+use lib.Ieee.{binary32}
+use Rattle.lane.specs.LanewiseFloat.{float-binary-of}
+use Rattle.standard.proofs.Loop.{zipTo, turn, done}
+use Rattle.simd.proofs.V128.float_binary32.Statement.{statement}
+use Rattle.simd.proofs.V128.float_binary32.Tie as tie
+
+abbrev Inv-loop : tie.InvT-loop
+Inv-loop op a₀ b i₀ a i = (i ≤ 4) × (a ≡ zipTo (float-binary-of binary32 op) i a₀ b)
+
+abbrev μ-loop : tie.MeasureT-loop
+μ-loop op a₀ b i₀ a i = 4 - i
+
+lanes32-requires : tie.Need-lanes32-requires Inv-loop μ-loop
+lanes32-requires c κs = search needs
+
+lanes32-requires-2 : tie.Need-lanes32-requires-2 Inv-loop μ-loop
+lanes32-requires-2 c κs = search needs
+
+loop-holds : tie.Need-loop-holds Inv-loop μ-loop
+loop-holds c = (search needs, refl)
+
+mul-float-binary32 : tie.Need-mul-float-binary32 Inv-loop μ-loop
+mul-float-binary32 c = search needs
+
+array-read-float-binary32 : tie.Need-array-read-float-binary32 Inv-loop μ-loop
+array-read-float-binary32 c = search needs
+
+mul-float-binary32-2 : tie.Need-mul-float-binary32-2 Inv-loop μ-loop
+mul-float-binary32-2 c = search needs
+
+array-read-float-binary32-2 : tie.Need-array-read-float-binary32-2 Inv-loop μ-loop
+array-read-float-binary32-2 c = search needs
+
+float-binary32-requires : tie.Need-float-binary32-requires Inv-loop μ-loop
+float-binary32-requires c κs = search needs
+
+mul-a : tie.Need-mul-a Inv-loop μ-loop
+mul-a c = search needs
+
+array-write-a : tie.Need-array-write-a Inv-loop μ-loop
+array-write-a c = search needs
+
+add-i : tie.Need-add-i Inv-loop μ-loop
+add-i c = search needs
+
+loop-less : tie.Need-loop-less Inv-loop μ-loop
+loop-less c = search needs
+
+loop-again : tie.Need-loop-again Inv-loop μ-loop
+loop-again c = (search needs, turn 32 _ _ _ (c .before .before .before .before .lanes32 .ensures) (c .before .before .before .lanes322 .ensures) (search needs) (c .before .before .loop .inv .1) (c .float-binary32 .ensures))
+
+join32-requires : tie.Need-join32-requires Inv-loop μ-loop
+join32-requires c κs = search needs
+
+returns : tie.Need-returns Inv-loop μ-loop
+returns c = c .join32 .ensures ∙ done 32 _ _ _ (c .before .before .before .before .lanes32 .ensures) (c .before .before .before .lanes322 .ensures) (c .before .before .loop .i) (search needs) (c .before .before .loop .inv .1)
+
+pub float-binary32-spec : {M : Type 1} → statement M
+float-binary32-spec = tie.close (tie.spec Inv-loop μ-loop lanes32-requires lanes32-requires-2 loop-holds mul-float-binary32 array-read-float-binary32 mul-float-binary32-2 array-read-float-binary32-2 float-binary32-requires mul-a array-write-a add-i loop-less loop-again join32-requires returns)

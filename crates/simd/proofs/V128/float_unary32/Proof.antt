@@ -1,0 +1,54 @@
+-- `simd::V128::float_unary32` meets its contract: a loop over the lanes. Assumes nothing.
+use borrow.Author.Needs.{needs}
+use Prim.Native.Nat.{_≤_, _-_}
+use mathlib.Core.Path.{_≡_, refl, _∙_}
+use lib.Ieee.{binary32}
+use Rattle.lane.specs.LanewiseFloat.{float-unary-of}
+use Rattle.standard.proofs.Loop.{zipTo, turn, done, one-list}
+use Rattle.simd.proofs.V128.float_unary32.Statement.{statement}
+use Rattle.simd.proofs.V128.float_unary32.Tie as tie
+
+abbrev Inv-loop : tie.InvT-loop
+Inv-loop op a₀ i₀ a i = (i ≤ 4) × (a ≡ zipTo (λ x y. float-unary-of binary32 op x) i a₀ a₀)
+
+abbrev μ-loop : tie.MeasureT-loop
+μ-loop op a₀ i₀ a i = 4 - i
+
+lanes32-requires : tie.Need-lanes32-requires Inv-loop μ-loop
+lanes32-requires c κs = search needs
+
+loop-holds : tie.Need-loop-holds Inv-loop μ-loop
+loop-holds c = (search needs, refl)
+
+mul-float-unary32 : tie.Need-mul-float-unary32 Inv-loop μ-loop
+mul-float-unary32 c = search needs
+
+array-read-float-unary32 : tie.Need-array-read-float-unary32 Inv-loop μ-loop
+array-read-float-unary32 c = search needs
+
+float-unary32-requires : tie.Need-float-unary32-requires Inv-loop μ-loop
+float-unary32-requires c κs = search needs
+
+mul-a : tie.Need-mul-a Inv-loop μ-loop
+mul-a c = search needs
+
+array-write-a : tie.Need-array-write-a Inv-loop μ-loop
+array-write-a c = search needs
+
+add-i : tie.Need-add-i Inv-loop μ-loop
+add-i c = search needs
+
+loop-less : tie.Need-loop-less Inv-loop μ-loop
+loop-less c = search needs
+
+loop-again : tie.Need-loop-again Inv-loop μ-loop
+loop-again c = (search needs, turn 32 _ _ _ (c .before .before .before .lanes32 .ensures) (c .before .before .before .lanes32 .ensures) (search needs) (c .before .before .loop .inv .1) (c .float-unary32 .ensures))
+
+join32-requires : tie.Need-join32-requires Inv-loop μ-loop
+join32-requires c κs = search needs
+
+returns : tie.Need-returns Inv-loop μ-loop
+returns c = c .join32 .ensures ∙ done 32 _ _ _ (c .before .before .before .lanes32 .ensures) (c .before .before .before .lanes32 .ensures) (c .before .before .loop .i) (search needs) (c .before .before .loop .inv .1) ∙ one-list 32 _ _
+
+pub float-unary32-spec : {M : Type 1} → statement M
+float-unary32-spec = tie.close (tie.spec Inv-loop μ-loop lanes32-requires loop-holds mul-float-unary32 array-read-float-unary32 float-unary32-requires mul-a array-write-a add-i loop-less loop-again join32-requires returns)
