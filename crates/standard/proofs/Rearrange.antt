@@ -11,7 +11,7 @@ use lib.Dec.{T, leb}
 use lib.ListN.{length, getD, drop, length-append, length-drop, drop-of-length-le}
 use lib.Seq.{paste, take-all, take-at}
 use Rattle.standard.specs.Lanes.{joined, lanes}
-use Rattle.standard.specs.Refusal.{Answer, given, refused, legal, at-indices}
+use Rattle.standard.specs.Refusal.{legal}
 use Rattle.standard.specs.Vector.{swizzle, shuffle}
 use Rattle.standard.proofs.Reduce.{next}
 
@@ -35,13 +35,6 @@ legal-mod g (i ∷ is) e = pick (leb i 31) refl e (legal-mod g is)
         → map (λ k. g (k % 32)) (i ∷ is) ≡ map g (i ∷ is)
     pick true t l rest = ap₂ _∷_ (ap g (mod-eq-of-lt (suc-le-suc (leb-true i 31 t)))) (rest l)
     pick false t l rest = absurd (subst T (sym l) tt)
-
--- a list of indices that is judged
-pub indices-taken : {A : Type 0} (is : List ℕ) {a b : A} → legal is ≡ true → a ≡ b → given a ≡ at-indices is b
-indices-taken is l e = rw l (ap given e)
-
-pub indices-refused : {A : Type 0} (is : List ℕ) (a : A) → legal is ≡ false → refused 5 ≡ at-indices is a
-indices-refused is a l = rw l
 
 -- the sixteen bytes of each vector, one after the other
 pub beside-is : (zs a b : List ℕ) → length zs ≡ 32 → length a ≡ 16 → length b ≡ 16 → paste (paste zs 0 a 16) 16 b 16 ≡ a ++ b

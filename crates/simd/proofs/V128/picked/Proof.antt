@@ -1,68 +1,48 @@
+-- `simd::V128::picked` meets its contract: a loop that fills the lanes. Assumes nothing.
+use borrow.Author.Needs.{needs}
+use Prim.Native.Nat.{_≤_, _-_, _%_}
+use mathlib.Core.Path.{_≡_, refl, ap, _∙_}
+use lib.ListN.{getD}
+use Rattle.standard.specs.Lanes.{joined}
+use Rattle.standard.proofs.Loop.{zipTo, fill-turn, filled}
 use Rattle.simd.proofs.V128.picked.Statement.{statement}
 use Rattle.simd.proofs.V128.picked.Tie as tie
-use Rattle.simd.proofs.V128.picked.Reads as reads
-use Rattle.simd.proofs.V128.picked.Lts as lts
-use Rattle.simd.proofs.V128.join8.Reads as join8-reads
 
 abbrev Inv-loop : tie.InvT-loop
-Inv-loop t s out₀ i₀ out i = ?
+Inv-loop t s out₀ i₀ out i = (i ≤ 16) × (out ≡ zipTo (λ x y. getD t (y % 32) 0) i out₀ s)
 
 abbrev μ-loop : tie.MeasureT-loop
-μ-loop t s out₀ i₀ out i = ?
+μ-loop t s out₀ i₀ out i = 16 - i
 
--- src/rearrange.rt:73:9
 loop-holds : tie.Need-loop-holds Inv-loop μ-loop
-loop-holds c = ?
+loop-holds c = (search needs, refl)
 
--- src/rearrange.rt:74:22
 array-read-j : tie.Need-array-read-j Inv-loop μ-loop
-array-read-j c = ?
+array-read-j c = search needs
 
--- src/rearrange.rt:74:21
 cast-j : tie.Need-cast-j Inv-loop μ-loop
-cast-j c = ?
+cast-j c = search needs
 
--- src/rearrange.rt:75:22
 array-read-out : tie.Need-array-read-out Inv-loop μ-loop
-array-read-out c = ?
+array-read-out c = search needs
 
--- src/rearrange.rt:75:13
 array-write-out : tie.Need-array-write-out Inv-loop μ-loop
-array-write-out c = ?
+array-write-out c = search needs
 
--- src/rearrange.rt:73:13
 add-i : tie.Need-add-i Inv-loop μ-loop
-add-i c = ?
+add-i c = search needs
 
--- src/rearrange.rt:73:9
 loop-less : tie.Need-loop-less Inv-loop μ-loop
-loop-less c = ?
+loop-less c = search needs
 
--- src/rearrange.rt:73:9
 loop-again : tie.Need-loop-again Inv-loop μ-loop
-loop-again c = ?
+loop-again c = (search needs, fill-turn 16 (λ y. getD (c .before .before .args .t1) (y % 32) 0) _ (c .before .before .args .t2) refl (search needs) (search needs) (c .before .loop .inv .1) refl)
 
--- src/rearrange.rt:77:9
 join8-requires : tie.Need-join8-requires Inv-loop μ-loop
-join8-requires c κs = ?
+join8-requires c κs = search needs
 
--- src/rearrange.rt:69:5
 returns : tie.Need-returns Inv-loop μ-loop
-returns c = ?
+returns c = c .join8 .ensures ∙ ap (joined 8) (filled 16 (λ y. getD (c .before .before .before .args .t1) (y % 32) 0) _ (c .before .before .before .args .t2) refl (search needs) (c .before .before .loop .i) (search needs) (c .before .before .loop .inv .1))
 
 pub picked-spec : {M : Type 1} → statement M
-picked-spec =
-    tie.close
-    (tie.spec
-    Inv-loop
-    μ-loop
-    loop-holds
-    array-read-j
-    cast-j
-    array-read-out
-    array-write-out
-    add-i
-    loop-less
-    loop-again
-    join8-requires
-    returns)
+picked-spec = tie.close (tie.spec Inv-loop μ-loop loop-holds array-read-j cast-j array-read-out array-write-out add-i loop-less loop-again join8-requires returns)

@@ -1,57 +1,47 @@
+-- `simd::rearrange::put` meets its contract: a loop that writes one byte a turn. Assumes nothing.
+use borrow.Author.Needs.{needs}
+use Prim.Native.Nat.{_≤_, _-_}
+use mathlib.Core.Path.{_≡_, ap, _∙_}
+use native.Mathlib.Numerals.{add-one}
+use native.Mathlib.Omega.{arith}
+use lib.ListN.{length}
+use lib.Seq.{paste, paste-zero, paste-suc}
 use Rattle.simd.proofs.rearrange.put.Statement.{statement}
 use Rattle.simd.proofs.rearrange.put.Tie as tie
-use Rattle.simd.proofs.rearrange.put.Reads as reads
-use Rattle.simd.proofs.rearrange.put.Lts as lts
 
 abbrev Inv-loop : tie.InvT-loop
-Inv-loop at a out₀ i₀ out i = ?
+Inv-loop at a out₀ i₀ out i = (i ≤ 16) × (out ≡ paste out₀ at a i)
 
 abbrev μ-loop : tie.MeasureT-loop
-μ-loop at a out₀ i₀ out i = ?
+μ-loop at a out₀ i₀ out i = 16 - i
 
--- src/rearrange.rt:30:5
 loop-holds : tie.Need-loop-holds Inv-loop μ-loop
-loop-holds c = ?
+loop-holds c = (search needs, paste-zero (c .args .t) (c .args .at) (c .args .t3))
 
--- src/rearrange.rt:31:17
 add-j : tie.Need-add-j Inv-loop μ-loop
-add-j c = ?
+add-j c = search needs
 
--- src/rearrange.rt:32:18
 array-read-out : tie.Need-array-read-out Inv-loop μ-loop
-array-read-out c = ?
+array-read-out c = search needs
 
--- src/rearrange.rt:32:9
 array-write-out : tie.Need-array-write-out Inv-loop μ-loop
-array-write-out c = ?
+array-write-out c = search needs
 
--- src/rearrange.rt:30:9
 add-i : tie.Need-add-i Inv-loop μ-loop
-add-i c = ?
+add-i c = search needs
 
--- src/rearrange.rt:30:5
 loop-less : tie.Need-loop-less Inv-loop μ-loop
-loop-less c = ?
+loop-less c = search needs
 
--- src/rearrange.rt:30:5
 loop-again : tie.Need-loop-again Inv-loop μ-loop
-loop-again c = ?
+loop-again c =
+    let long : length (c .before .before .args .t) ≡ 32 = search needs in
+    (search needs, rw (add-one, c .before .loop .inv .1) (paste-suc (c .before .before .args .t) (c .before .before .args .at) (c .before .before .args .t3) (c .before .loop .i) 0 (omega arith) (search needs)))
 
--- src/rearrange.rt:25:1
 returns : tie.Need-returns Inv-loop μ-loop
-returns c = ?
+returns c =
+    let end : c .before .loop .i ≡ 16 = omega arith in
+    c .before .loop .inv .1 ∙ ap (paste (c .before .before .args .t) (c .before .before .args .at) (c .before .before .args .t3)) end
 
 pub put-spec : {M : Type 1} → statement M
-put-spec =
-    tie.close
-    (tie.spec
-    Inv-loop
-    μ-loop
-    loop-holds
-    add-j
-    array-read-out
-    array-write-out
-    add-i
-    loop-less
-    loop-again
-    returns)
+put-spec = tie.close (tie.spec Inv-loop μ-loop loop-holds add-j array-read-out array-write-out add-i loop-less loop-again returns)
