@@ -6,6 +6,7 @@ pub mod bitwise;
 pub mod compare;
 pub mod extract;
 pub mod float;
+pub mod memory;
 pub mod rearrange;
 pub mod reduce;
 pub mod replace;

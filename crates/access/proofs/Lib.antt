@@ -1,0 +1,4 @@
+pub mod Bounds
+pub mod Bytes
+pub mod Coincide
+pub mod Shapes

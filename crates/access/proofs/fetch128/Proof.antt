@@ -1,0 +1,27 @@
+-- `access::fetch128` meets its contract. Assumes nothing.
+use borrow.Author.Needs.{needs}
+use Rattle.access.proofs.Bounds.{reached, fetched, unfetched}
+use Rattle.access.proofs.fetch128.Statement.{statement}
+use Rattle.access.proofs.fetch128.Tie as tie
+
+reach-requires : tie.Need-reach-requires
+reach-requires c κs = search needs
+
+enum-known-at : tie.Need-enum-known-at
+enum-known-at c = search needs
+
+enum-told : tie.Need-enum-told
+enum-told c = search needs
+
+returns : tie.Need-returns
+returns c = unfetched _ _ _ (rw (c .enum-told .given .1) at (c .before .before .reach .ensures))
+
+read128-requires : tie.Need-read128-requires
+read128-requires c κs = reached _ _ _ (rw (c .before .at .given .1) at (c .before .before .before .reach .ensures))
+
+returns-2 : tie.Need-returns-2
+returns-2 c = fetched _ _ _ (rw (c .before .before .at .given .1) at (c .before .before .before .before .reach .ensures)) (c .read128 .ensures)
+
+pub fetch128-spec : {M : Type 1} → statement M
+fetch128-spec =
+    tie.close (tie.spec reach-requires enum-known-at enum-told returns read128-requires returns-2)

@@ -1,0 +1,262 @@
+// Memory (document 01, "Memory"): lent bytes, little-endian. One bounds test, and numbers of 1, 2, 4, 8 and 16 bytes read and written where it
+// allows the access. A number of 2n bytes is two numbers of n bytes, low one first.
+ghost use mathlib.Core.Path.{_≡_};
+ghost use Prim.Native.Nat.{_+_, _*_, _^_, _≤_};
+ghost use lib.ListN.{length};
+ghost use Rattle.standard.specs.Memory.{within, number-at, with-number, load, store, stored};
+ghost use Rattle.access.specs.Access.{effective, access-answer, put-answer, fetched8, fetched16, fetched32, fetched64, fetched128};
+
+// An effective address: "pointer p with offset o", whose exact sum may pass 2^64, or the address of an `_at` form.
+pub enum Effective {
+    Sum(u64, u64),
+    Address(usize),
+}
+
+// The answer of the bounds test: where the first byte stands, or that the access runs past the end.
+pub enum Access {
+    At(usize),
+    Past,
+}
+
+// The answer of a load: the number of the bytes, or that they are past the end.
+pub enum Fetched8 {
+    Number(u8),
+    Past,
+}
+
+pub enum Fetched16 {
+    Number(u16),
+    Past,
+}
+
+pub enum Fetched32 {
+    Number(u32),
+    Past,
+}
+
+pub enum Fetched64 {
+    Number(u64),
+    Past,
+}
+
+// The 16 bytes of a vector, low half first.
+pub struct Halves {
+    pub lo: u64,
+    pub hi: u64,
+}
+
+pub enum Fetched128 {
+    Number(Halves),
+    Past,
+}
+
+// The answer of a store.
+pub enum Put {
+    Done,
+    Past,
+}
+
+// "allowed when the exact sum p + o + n is at most the length": a sum that has come round is below the pointer, and its exact value is past every
+// length. An offset of 0, as in an `_at` form, leaves the last two tests.
+fn reach_sum(memory: &[u8], ptr: u64, offset: u64, n: usize) -> Access
+    ensures { λ r. ⌜ access-answer r ≡ within (now (memory .entry)) (ptr + offset) n (ptr + offset) ⌝ }
+{
+    let at = std::num::wrapping_add_u64(ptr, offset);
+    let length = memory.len();
+    if at < ptr {
+        return Access::Past;
+    }
+    if length < n {
+        return Access::Past;
+    }
+    if ((length - n) as u64) < at {
+        return Access::Past;
+    }
+    Access::At(at as usize)
+}
+
+// The one bounds test, of both forms.
+pub fn reach(memory: &[u8], ea: Effective, n: usize) -> Access
+    ensures { λ r. ⌜ access-answer r ≡ within (now (memory .entry)) (effective ea) n (effective ea) ⌝ }
+{
+    match ea {
+        Effective::Sum(ptr, offset) => reach_sum(memory, ptr, offset, n),
+        Effective::Address(address) => reach_sum(memory, address as u64, 0, n),
+    }
+}
+
+// The number of the n bytes at a place that has them, low byte first.
+fn read8(memory: &[u8], at: usize) -> u8
+    requires { ⌜ at + 1 ≤ length (now memory) ⌝ }
+    ensures { λ r. ⌜ r ≡ number-at (now (memory .entry)) at 1 ⌝ }
+{
+    memory[at]
+}
+
+fn read16(memory: &[u8], at: usize) -> u16
+    requires { ⌜ at + 2 ≤ length (now memory) ⌝ }
+    ensures { λ r. ⌜ r ≡ number-at (now (memory .entry)) at 2 ⌝ }
+{
+    (read8(memory, at) as u16) + 256 * (read8(memory, at + 1) as u16)
+}
+
+fn read32(memory: &[u8], at: usize) -> u32
+    requires { ⌜ at + 4 ≤ length (now memory) ⌝ }
+    ensures { λ r. ⌜ r ≡ number-at (now (memory .entry)) at 4 ⌝ }
+{
+    (read16(memory, at) as u32) + 65536 * (read16(memory, at + 2) as u32)
+}
+
+fn read64(memory: &[u8], at: usize) -> u64
+    requires { ⌜ at + 8 ≤ length (now memory) ⌝ }
+    ensures { λ r. ⌜ r ≡ number-at (now (memory .entry)) at 8 ⌝ }
+{
+    (read32(memory, at) as u64) + 4294967296 * (read32(memory, at + 4) as u64)
+}
+
+fn read128(memory: &[u8], at: usize) -> Halves
+    requires { ⌜ at + 16 ≤ length (now memory) ⌝ }
+    ensures { λ r. ⌜ r .lo + 2 ^ 64 * r .hi ≡ number-at (now (memory .entry)) at 16 ⌝ }
+{
+    Halves {
+        lo: read64(memory, at),
+        hi: read64(memory, at + 8),
+    }
+}
+
+// "A store writes those n bytes and no others".
+fn write8(memory: &mut [u8], at: usize, x: u8)
+    requires { ⌜ at + 1 ≤ length (now memory) ⌝ }
+    ensures { λ r. ⌜ now (memory .exit) ≡ with-number (now (memory .entry)) at 1 x ⌝ }
+{
+    memory[at] = x;
+}
+
+fn write16(memory: &mut [u8], at: usize, x: u16)
+    requires { ⌜ at + 2 ≤ length (now memory) ⌝ }
+    ensures { λ r. ⌜ now (memory .exit) ≡ with-number (now (memory .entry)) at 2 x ⌝ }
+{
+    write8(memory, at, (x % 256) as u8);
+    write8(memory, at + 1, (x / 256) as u8);
+}
+
+fn write32(memory: &mut [u8], at: usize, x: u32)
+    requires { ⌜ at + 4 ≤ length (now memory) ⌝ }
+    ensures { λ r. ⌜ now (memory .exit) ≡ with-number (now (memory .entry)) at 4 x ⌝ }
+{
+    write16(memory, at, (x % 65536) as u16);
+    write16(memory, at + 2, (x / 65536) as u16);
+}
+
+fn write64(memory: &mut [u8], at: usize, x: u64)
+    requires { ⌜ at + 8 ≤ length (now memory) ⌝ }
+    ensures { λ r. ⌜ now (memory .exit) ≡ with-number (now (memory .entry)) at 8 x ⌝ }
+{
+    write32(memory, at, (x % 4294967296) as u32);
+    write32(memory, at + 4, (x / 4294967296) as u32);
+}
+
+fn write128(memory: &mut [u8], at: usize, lo: u64, hi: u64)
+    requires { ⌜ at + 16 ≤ length (now memory) ⌝ }
+    ensures { λ r. ⌜ now (memory .exit) ≡ with-number (now (memory .entry)) at 16 (lo + 2 ^ 64 * hi) ⌝ }
+{
+    write64(memory, at, lo);
+    write64(memory, at + 8, hi);
+}
+
+// A load of n bytes, where the bounds test allows it.
+pub fn fetch8(memory: &[u8], ea: Effective) -> Fetched8
+    ensures { λ r. ⌜ fetched8 r ≡ load 1 (now (memory .entry)) (effective ea) ⌝ }
+{
+    let Access::At(at) = reach(memory, ea, 1) else {
+        return Fetched8::Past;
+    };
+    Fetched8::Number(read8(memory, at))
+}
+
+pub fn fetch16(memory: &[u8], ea: Effective) -> Fetched16
+    ensures { λ r. ⌜ fetched16 r ≡ load 2 (now (memory .entry)) (effective ea) ⌝ }
+{
+    let Access::At(at) = reach(memory, ea, 2) else {
+        return Fetched16::Past;
+    };
+    Fetched16::Number(read16(memory, at))
+}
+
+pub fn fetch32(memory: &[u8], ea: Effective) -> Fetched32
+    ensures { λ r. ⌜ fetched32 r ≡ load 4 (now (memory .entry)) (effective ea) ⌝ }
+{
+    let Access::At(at) = reach(memory, ea, 4) else {
+        return Fetched32::Past;
+    };
+    Fetched32::Number(read32(memory, at))
+}
+
+pub fn fetch64(memory: &[u8], ea: Effective) -> Fetched64
+    ensures { λ r. ⌜ fetched64 r ≡ load 8 (now (memory .entry)) (effective ea) ⌝ }
+{
+    let Access::At(at) = reach(memory, ea, 8) else {
+        return Fetched64::Past;
+    };
+    Fetched64::Number(read64(memory, at))
+}
+
+pub fn fetch128(memory: &[u8], ea: Effective) -> Fetched128
+    ensures { λ r. ⌜ fetched128 r ≡ load 16 (now (memory .entry)) (effective ea) ⌝ }
+{
+    let Access::At(at) = reach(memory, ea, 16) else {
+        return Fetched128::Past;
+    };
+    Fetched128::Number(read128(memory, at))
+}
+
+// A store of n bytes. Where it is refused, "memory unwritten".
+pub fn put8(memory: &mut [u8], ea: Effective, x: u8) -> Put
+    ensures { λ r. ⌜ put-answer r (now (memory .exit)) ≡ stored (store 1 x (now (memory .entry)) (effective ea)) (now (memory .entry)) ⌝ }
+{
+    let Access::At(at) = reach(memory, ea, 1) else {
+        return Put::Past;
+    };
+    write8(memory, at, x);
+    Put::Done
+}
+
+pub fn put16(memory: &mut [u8], ea: Effective, x: u16) -> Put
+    ensures { λ r. ⌜ put-answer r (now (memory .exit)) ≡ stored (store 2 x (now (memory .entry)) (effective ea)) (now (memory .entry)) ⌝ }
+{
+    let Access::At(at) = reach(memory, ea, 2) else {
+        return Put::Past;
+    };
+    write16(memory, at, x);
+    Put::Done
+}
+
+pub fn put32(memory: &mut [u8], ea: Effective, x: u32) -> Put
+    ensures { λ r. ⌜ put-answer r (now (memory .exit)) ≡ stored (store 4 x (now (memory .entry)) (effective ea)) (now (memory .entry)) ⌝ }
+{
+    let Access::At(at) = reach(memory, ea, 4) else {
+        return Put::Past;
+    };
+    write32(memory, at, x);
+    Put::Done
+}
+
+pub fn put64(memory: &mut [u8], ea: Effective, x: u64) -> Put
+    ensures { λ r. ⌜ put-answer r (now (memory .exit)) ≡ stored (store 8 x (now (memory .entry)) (effective ea)) (now (memory .entry)) ⌝ }
+{
+    let Access::At(at) = reach(memory, ea, 8) else {
+        return Put::Past;
+    };
+    write64(memory, at, x);
+    Put::Done
+}
+
+pub fn put128(memory: &mut [u8], ea: Effective, lo: u64, hi: u64) -> Put
+    ensures { λ r. ⌜ put-answer r (now (memory .exit)) ≡ stored (store 16 (lo + 2 ^ 64 * hi) (now (memory .entry)) (effective ea)) (now (memory .entry)) ⌝ }
+{
+    let Access::At(at) = reach(memory, ea, 16) else {
+        return Put::Past;
+    };
+    write128(memory, at, lo, hi);
+    Put::Done
+}
