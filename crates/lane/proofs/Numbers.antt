@@ -1,19 +1,10 @@
--- The last arm of a match on an operation's number: the number is none of those below n, so it is n or more and the table gives 0.
+-- A number past the end of a table of operations: the table gives 0.
 -- Assumes nothing.
 use mathlib.Core.Path.{_≡_, sym, ap}
-use Prim.Native.Nat.{ℕ, zero, suc, _≤_, zero-le}
-use lib.Arith.{lt-of-le-ne}
+use Prim.Native.Nat.{ℕ, _≤_}
 use mathlib.Core.List.{List}
 use lib.ListN.{length, List·getD-eq-default}
 use Rattle.lane.specs.Lanewise.{unary-of, binary-of}
-
-abbrev pub NoneBelow : ℕ → ℕ → Type 0
-NoneBelow op zero = Unit {0}
-NoneBelow op (suc n) = NoneBelow op n × (op ≡ n → ⊥)
-
-pub past : (op n : ℕ) → NoneBelow op n → n ≤ op
-past op zero u = zero-le
-past op (suc n) u = lt-of-le-ne (past op n (u .0)) (λ e. u .1 (sym e))
 
 pub no-unary : (fs : List (ℕ → ℕ)) (op x : ℕ) → length fs ≤ op → 0 ≡ unary-of fs op x
 no-unary fs op x h = sym (ap (λ (f : ℕ → ℕ). f x) (List·getD-eq-default fs (λ a. 0) h))

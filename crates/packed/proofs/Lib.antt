@@ -7,3 +7,4 @@ pub mod Shifts
 pub mod Mean
 pub mod Ones
 pub mod Gather
+pub mod Table

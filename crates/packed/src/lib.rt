@@ -2,6 +2,7 @@
 // into lanes" (document 01, "The calculator").
 pub mod arithmetic;
 pub mod average;
+pub mod choose;
 pub mod compare;
 mod masks;
 pub mod popcnt;

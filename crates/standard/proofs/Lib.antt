@@ -3,6 +3,7 @@ pub mod Bitwise
 pub mod Digits
 pub mod Halves
 pub mod Loop
+pub mod Match
 pub mod Numbers
 pub mod Pairs
 pub mod Rearrange

@@ -35,7 +35,7 @@ zipTo-all f [] ys e = refl
 zipTo-all f (x ∷ xs) [] e = absurd (suc-ne-zero (length xs) e)
 zipTo-all f (x ∷ xs) (y ∷ ys) e = ap (λ (r : List ℕ). f x y ∷ r) (zipTo-all f xs ys (suc-inj e))
 
-zip-map : (f : ℕ → ℕ) (xs : List ℕ) → zip (λ x y. f x) xs xs ≡ map f xs
+pub zip-map : (f : ℕ → ℕ) (xs : List ℕ) → zip (λ x y. f x) xs xs ≡ map f xs
 zip-map f [] = refl
 zip-map f (x ∷ xs) = ap (λ (r : List ℕ). f x ∷ r) (zip-map f xs)
 

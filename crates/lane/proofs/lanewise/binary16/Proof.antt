@@ -1,7 +1,8 @@
 -- `lane::lanewise::binary16` meets its contract: each arm by its callee's promise, at the number that led there. Assumes nothing.
 use borrow.Author.Needs.{needs}
 use Rattle.lane.specs.Lanewise.{binaries}
-use Rattle.lane.proofs.Numbers.{past, no-binary}
+use Rattle.standard.proofs.Match.{past}
+use Rattle.lane.proofs.Numbers.{no-binary}
 use Rattle.lane.proofs.lanewise.binary16.Statement.{statement}
 use Rattle.lane.proofs.lanewise.binary16.Tie as tie
 

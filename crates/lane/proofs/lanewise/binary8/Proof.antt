@@ -2,7 +2,8 @@
 use borrow.Author.Needs.{needs}
 use lib.ListN.{take}
 use Rattle.lane.specs.Lanewise.{binaries}
-use Rattle.lane.proofs.Numbers.{past, no-binary}
+use Rattle.standard.proofs.Match.{past}
+use Rattle.lane.proofs.Numbers.{no-binary}
 use Rattle.lane.proofs.lanewise.binary8.Statement.{statement}
 use Rattle.lane.proofs.lanewise.binary8.Tie as tie
 

@@ -1,7 +1,8 @@
 -- `lane::lanewise::unary64` meets its contract: each arm by its callee's promise, at the number that led there. Assumes nothing.
 use borrow.Author.Needs.{needs}
 use Rattle.lane.specs.Lanewise.{unaries}
-use Rattle.lane.proofs.Numbers.{past, no-unary}
+use Rattle.standard.proofs.Match.{past}
+use Rattle.lane.proofs.Numbers.{no-unary}
 use Rattle.lane.proofs.lanewise.unary64.Statement.{statement}
 use Rattle.lane.proofs.lanewise.unary64.Tie as tie
 

@@ -3,7 +3,8 @@ use borrow.Author.Needs.{needs}
 use lib.Ieee.{binary64}
 use Rattle.lane.specs.LanewiseFloat.{float-binaries}
 use Rattle.lane.proofs.FloatOrder.{ne-is}
-use Rattle.lane.proofs.Numbers.{past, no-binary}
+use Rattle.standard.proofs.Match.{past}
+use Rattle.lane.proofs.Numbers.{no-binary}
 use Rattle.lane.proofs.lanewise_float.float_binary64.Statement.{statement}
 use Rattle.lane.proofs.lanewise_float.float_binary64.Tie as tie
 

@@ -2,7 +2,8 @@
 use borrow.Author.Needs.{needs}
 use lib.Ieee.{binary32}
 use Rattle.lane.specs.LanewiseFloat.{float-unaries}
-use Rattle.lane.proofs.Numbers.{past, no-unary}
+use Rattle.standard.proofs.Match.{past}
+use Rattle.lane.proofs.Numbers.{no-unary}
 use Rattle.lane.proofs.lanewise_float.float_unary32.Statement.{statement}
 use Rattle.lane.proofs.lanewise_float.float_unary32.Tie as tie
 
