@@ -1,14 +1,14 @@
 -- A number of the width w held to the unsigned or the signed range of a lane of the width v.
 -- Assumes nothing.
-use mathlib.Core.Path.{_≡_, refl, sym, ap, _∙_, subst, subst⁻¹}
-use mathlib.Core.Bool.{Bool, true, false}
-use Prim.Native.Nat.{ℕ, suc, _-_, _^_, _<_, _≤_}
+use mathlib.Core.Path.{_≡_, refl, sym, subst⁻¹}
+use mathlib.Core.Bool.{true, false}
+use Prim.Native.Nat.{_-_, _^_}
 use native.Mathlib.Omega.{arith}
 use borrow.Author.Tests.{ltb-false}
 use lib.Dec.{T}
 use lib.Pow.{pow-pos}
 use lib.IntN.{ℤ, pos, negsuc, natAbs}
-use lib.Signed.{ltZ, nonNeg, mag}
+use lib.Signed.{ltZ, nonNeg}
 use mir.Syntax.{Width, w8, w16, w32, w64, w128}
 use mir.Val.{Fits, SFits, bits, hbits, toZ, ofZ}
 use mir.Facts.{toZ-ofZ}

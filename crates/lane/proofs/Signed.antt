@@ -1,8 +1,8 @@
 -- Signed lanes, over the width: the machine's reading of bits as a signed number is the standard's, and the way back is modulo 2^N.
 -- Assumes nothing.
-use mathlib.Core.Path.{_≡_, refl, sym, ap, _∙_, subst, subst⁻¹}
+use mathlib.Core.Path.{_≡_, refl, sym, ap, _∙_, subst⁻¹}
 use mathlib.Core.Bool.{Bool, true, false, cond}
-use Prim.Native.Nat.{ℕ, zero, suc, _+_, _-_, _*_, _%_, _^_, _<_, _≤_, suc-le-suc}
+use Prim.Native.Nat.{ℕ, suc, _-_, _^_, _<_}
 use native.Mathlib.Nat.{mod-eq-of-lt, not-suc-le-zero}
 use native.Mathlib.Omega.{arith}
 use borrow.Author.Tests.{lt-ltb, ltb-true}
@@ -10,7 +10,7 @@ use lib.Dec.{T, ltb}
 use lib.IntN.{ℤ, pos, negsuc, natAbs, _-ℤ_}
 use lib.Signed.{ltZ, nonNeg, mag}
 use mir.Syntax.{Width, w8, w16, w32, w64, w128}
-use mir.Val.{Fits, SFits, bits, hbits, toZ, ofZ, sel}
+use mir.Val.{Fits, SFits, bits, toZ, ofZ, sel}
 use mir.ValLaws.{half-full, toZ-pos, toZ-fits, ofZ-toZ}
 use mir.Facts.{toZ-ofZ}
 use Rattle.standard.specs.Integer.{signed, modulo}

@@ -7,6 +7,9 @@ use Rattle.lane.proofs.Magnitude.{product-exact, rounded-exact, rounded
 use Rattle.lane.proofs.saturate.q15mulr_sat_s16.Statement.{statement}
 use Rattle.lane.proofs.saturate.q15mulr_sat_s16.Tie as tie
 
+returns : tie.Need-returns
+returns c = c .sat-s16 .ensures ∙ ap (sat-s 16) (rounded-shift w16 tt (c .before .before .before .fits .a) (c .before .before .before .fits .b) (c .before .before .wide16 .ok) (c .before .before .wide16 .ensures) (c .before .wide162 .ok) (c .before .wide162 .ensures))
+
 wide16-requires : tie.Need-wide16-requires
 wide16-requires c κs = search needs
 
@@ -21,9 +24,6 @@ add-sat-s16 c = rounded-exact w16 tt (c .before .before .fits .a) (c .before .be
 
 sat-s16-requires : tie.Need-sat-s16-requires
 sat-s16-requires c κs = search needs
-
-returns : tie.Need-returns
-returns c = c .sat-s16 .ensures ∙ ap (sat-s 16) (rounded-shift w16 tt (c .before .before .before .fits .a) (c .before .before .before .fits .b) (c .before .before .wide16 .ok) (c .before .before .wide16 .ensures) (c .before .wide162 .ok) (c .before .wide162 .ensures))
 
 pub q15mulr-sat-s16-spec : {M : Type 1} → statement M
 q15mulr-sat-s16-spec = tie.close (tie.spec wide16-requires wide16-requires-2 mul-sat-s16 add-sat-s16 sat-s16-requires returns)
