@@ -23,7 +23,7 @@ add-result : tie.Need-add-result
 add-result c = search needs
 
 returns : tie.Need-returns
-returns c = bitmask-64 _ _ (search needs) (search needs) (c .before .sign64 .ensures) (c .sign642 .ensures)
+returns c = bitmask-64 _ _ (search needs) (search needs) (search (needs, c .before .sign64 .ensures)) (search (needs, c .sign642 .ensures))
 
 pub i64x2-bitmask-spec : {M : Type 1} → statement M
 i64x2-bitmask-spec = tie.close (tie.spec sign64-requires cast-result sign64-requires-2 cast-result-2 mul-result add-result returns)
