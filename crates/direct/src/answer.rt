@@ -1,0 +1,154 @@
+// An answer before its memory: the refusal number, the kind of the result, and the result. What a result does not use is zero.
+use crate::layout::*;
+use lane::reinterpret::unsigned32;
+use lane::reinterpret::unsigned64;
+use simd::V128;
+use simd::answer::F32Answer;
+use simd::answer::F64Answer;
+use simd::answer::I32Answer;
+use simd::answer::I64Answer;
+use simd::answer::StoreAnswer;
+use simd::answer::U32Answer;
+use simd::answer::VectorAnswer;
+
+// No such function here, or no request to answer.
+const NONE: u8 = 255;
+
+const NOTHING: u8 = 0;
+
+const IS_VECTOR: u8 = 1;
+
+const IS_I32: u8 = 2;
+
+const IS_I64: u8 = 3;
+
+const IS_F32: u8 = 4;
+
+const IS_F64: u8 = 5;
+
+const IS_BOOL: u8 = 6;
+
+pub struct Answer {
+    pub refusal: u8,
+    pub kind: u8,
+    pub bits: u64,
+    pub vector: V128,
+}
+
+impl Answer {
+    pub fn refused(number: u8) -> Answer {
+        let zero = V128 { lo: 0, hi: 0 };
+        Answer {
+            refusal: number,
+            kind: NOTHING,
+            bits: 0,
+            vector: zero,
+        }
+    }
+
+    pub fn none() -> Answer {
+        Answer::refused(NONE)
+    }
+
+    pub fn vector(v: V128) -> Answer {
+        Answer {
+            refusal: 0,
+            kind: IS_VECTOR,
+            bits: 0,
+            vector: v,
+        }
+    }
+
+    fn scalar(kind: u8, bits: u64) -> Answer {
+        let zero = V128 { lo: 0, hi: 0 };
+        Answer {
+            refusal: 0,
+            kind: kind,
+            bits: bits,
+            vector: zero,
+        }
+    }
+
+    pub fn u32(x: u32) -> Answer {
+        Answer::scalar(IS_I32, x as u64)
+    }
+
+    pub fn boolean(x: bool) -> Answer {
+        if x {
+            Answer::scalar(IS_BOOL, 1)
+        } else {
+            Answer::scalar(IS_BOOL, 0)
+        }
+    }
+
+    pub fn of_vector(v: VectorAnswer) -> Answer {
+        match v {
+            VectorAnswer::Vector(x) => Answer::vector(x),
+            VectorAnswer::Refused(number) => Answer::refused(number),
+        }
+    }
+
+    pub fn of_i32(v: I32Answer) -> Answer {
+        match v {
+            I32Answer::Value(x) => Answer::u32(unsigned32(x)),
+            I32Answer::Refused(number) => Answer::refused(number),
+        }
+    }
+
+    pub fn of_u32(v: U32Answer) -> Answer {
+        match v {
+            U32Answer::Value(x) => Answer::u32(x),
+            U32Answer::Refused(number) => Answer::refused(number),
+        }
+    }
+
+    pub fn of_i64(v: I64Answer) -> Answer {
+        match v {
+            I64Answer::Value(x) => Answer::scalar(IS_I64, unsigned64(x)),
+            I64Answer::Refused(number) => Answer::refused(number),
+        }
+    }
+
+    pub fn of_f32(v: F32Answer) -> Answer {
+        match v {
+            F32Answer::Value(x) => Answer::scalar(IS_F32, x.to_bits() as u64),
+            F32Answer::Refused(number) => Answer::refused(number),
+        }
+    }
+
+    pub fn of_f64(v: F64Answer) -> Answer {
+        match v {
+            F64Answer::Value(x) => Answer::scalar(IS_F64, x.to_bits()),
+            F64Answer::Refused(number) => Answer::refused(number),
+        }
+    }
+
+    // A store has no result: what it wrote is in the memory.
+    pub fn of_store(v: StoreAnswer) -> Answer {
+        match v {
+            StoreAnswer::Done => Answer::scalar(NOTHING, 0),
+            StoreAnswer::Refused(number) => Answer::refused(number),
+        }
+    }
+
+    // The 80 bytes of an answer of a function without memory.
+    pub fn bytes(self) -> [u8; 80] {
+        let mut out = [0u8; 80];
+        out[REFUSAL] = self.refusal;
+        out[KIND] = self.kind;
+        put(&mut out, BITS, self.bits);
+        let v = self.vector;
+        put(&mut out, VECTOR, v.lo);
+        put(&mut out, VECTOR + 8, v.hi);
+        out
+    }
+
+    // The 80 bytes of an answer of a function with this memory.
+    pub fn bytes_with(self, memory: &[u8; 48]) -> [u8; 80] {
+        let mut out = self.bytes();
+        for i in 0..48 {
+            out[AFTERWARDS + i] = memory[i];
+        }
+        out
+    }
+}
