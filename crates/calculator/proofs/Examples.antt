@@ -1,0 +1,58 @@
+-- The definition's run, computed: document 01's example of two steps, each refusal and its limits, in one table with one theorem. Assumes nothing.
+use mathlib.Core.Path.{_≡_, refl}
+use mathlib.Core.List.{List, [], _∷_, _++_, map}
+use Prim.Native.Nat.{ℕ, _*_}
+use lib.ListN.{replicate, set}
+use Rattle.standard.specs.Lanes.{joined, unary, extract}
+use Rattle.standard.specs.Instruction.{i32, table, instruction}
+use Rattle.calculator.specs.Definition.{Machine, Ending, refusal, effect, step, steps, run}
+
+-- "starts from zero registers and scalar i32 0"
+pub start : Machine
+start = record { registers = replicate 16 0; kind = i32; bits = 0 }
+
+ending : List ℕ → ℕ → ℕ → Ending
+ending registers done number = record { machine = record { registers = registers; kind = i32; bits = 0 }; done = done; number = number }
+
+upto : List ℕ
+upto = 0 ∷ 1 ∷ 2 ∷ 3 ∷ 4 ∷ 5 ∷ 6 ∷ 7 ∷ 8 ∷ 9 ∷ 10 ∷ 11 ∷ 12 ∷ 13 ∷ 14 ∷ 15 ∷ []
+
+-- a step: operation, destination, source a, lane; and its last sixteen bytes
+a-step : ℕ → ℕ → ℕ → ℕ → List ℕ → List ℕ
+a-step op d a lane rest = op ∷ 0 ∷ d ∷ a ∷ 0 ∷ 0 ∷ lane ∷ replicate 9 0 ++ rest
+
+-- document 01's two steps: v128.const of bytes 0 to 15 into 1, then i8x16.popcnt (98) from 1 into 2
+two : List ℕ
+unfolding a-step upto
+two = a-step 12 1 0 0 upto ++ a-step 98 2 1 0 (replicate 16 0)
+
+-- the registers of its listing
+listing : List ℕ
+unfolding upto
+listing =
+    set (set (replicate 16 0) 1 (joined 8 upto)) 2
+    (joined 8 (0 ∷ 1 ∷ 1 ∷ 2 ∷ 1 ∷ 2 ∷ 2 ∷ 3 ∷ 1 ∷ 2 ∷ 2 ∷ 3 ∷ 2 ∷ 3 ∷ 3 ∷ 4 ∷ []))
+
+pub record Case : Type 0 where
+  pub list : List ℕ
+  pub expected : Ending
+
+pub cases : List Case
+unfolding ending a-step two listing
+cases =
+    record { list = two; expected = ending listing 2 0 }
+    -- an empty list does 0 steps with 0; 65 bytes are refused
+    ∷ record { list = []; expected = ending (replicate 16 0) 0 0 }
+    ∷ record { list = 0 ∷ two; expected = ending (replicate 16 0) 0 1 }
+    -- after two steps: a load; register 16; lane 16, and 15, of i8x16; index 32; a splat of an i64
+    ∷ record { list = two ++ a-step 0 0 0 0 (replicate 16 0); expected = ending listing 2 2 }
+    ∷ record { list = two ++ a-step 12 16 0 0 (replicate 16 0); expected = ending listing 2 3 }
+    ∷ record { list = two ++ a-step 22 255 1 16 (replicate 16 0); expected = ending listing 2 4 }
+    ∷ record { list = two ++ a-step 22 255 3 15 (replicate 16 0); expected = ending listing 3 0 }
+    ∷ record { list = two ++ a-step 13 0 0 0 (32 ∷ replicate 15 31); expected = ending listing 2 5 }
+    ∷ record { list = two ++ a-step 18 0 0 0 (replicate 16 0); expected = ending listing 2 6 }
+    ∷ []
+
+pub examples-hold : map (λ (c : Case). run (c .list) start) cases ≡ map (λ (c : Case). c .expected) cases
+unfolding start cases run steps step refusal effect instruction table unary extract
+examples-hold = refl

@@ -1,0 +1,177 @@
+-- The calculator (document 01, "The calculator (added)"): a step and a run, for every list of bytes and every start, over the standard's table.
+-- In plain numbers: it knows nothing of marks, halves or code.
+use Prim.Native.Nat.{ℕ, zero, suc, _+_, _*_, _/_, _%_}
+use mathlib.Core.Bool.{Bool, true, false, cond}
+use mathlib.Core.List.{List, [], _∷_, _++_}
+use lib.ListN.{length, getD, set, take, drop}
+use lib.Dec.{ltb, leb, eqb}
+use Rattle.standard.specs.Lanes.{joined}
+use Rattle.standard.specs.Vector.{shuffle}
+use Rattle.standard.specs.Refusal.{Answer, given, refused, legal}
+use Rattle.standard.specs.Instruction.{Kind, i32, i64, f32, f64, Instruction, none, memory, const, shuffled, vector₁, vector₂, vector₃, shifted, tested, splatted, extracted, replaced, instruction}
+
+-- "State: 16 registers and one scalar. The scalar is an i32, an i64, an f32 or an f64": its kind and its bits.
+pub record Machine : Type 0 where
+  pub registers : List ℕ
+  pub kind : Kind
+  pub bits : ℕ
+
+-- "A step is 32 bytes": the n of them from a place on, and the number that they stand for. "Numbers are little-endian."
+abbrev pub bytes : List ℕ → ℕ → ℕ → List ℕ
+bytes s at zero = []
+bytes s at (suc n) = getD s at 0 ∷ bytes s (suc at) n
+
+abbrev pub field : List ℕ → ℕ → ℕ → ℕ
+field s at n = joined 8 (bytes s at n)
+
+-- "0..1 operation, the standard's number after the 0xFD prefix; 2 destination; 3, 4, 5 sources a, b, c; 6 lane"
+abbrev pub operation : List ℕ → ℕ
+operation s = field s 0 2
+
+abbrev pub destination : List ℕ → ℕ
+destination s = getD s 2 0
+
+abbrev pub sources : List ℕ → List ℕ
+sources s = bytes s 3 3
+
+abbrev pub lane : List ℕ → ℕ
+lane s = getD s 6 0
+
+-- "8..11 shift count, unsigned"
+abbrev pub count : List ℕ → ℕ
+count s = field s 8 4
+
+-- "16..31 the constant of v128.const or the sixteen shuffle indices"
+abbrev pub constant : List ℕ → ℕ
+constant s = field s 16 16
+
+abbrev pub indices : List ℕ → List ℕ
+indices s = bytes s 16 16
+
+-- What the refusals of a step ask of an instruction.
+pub record Profile : Type 0 where
+  -- 2: "operation number without a calculator step: not carried over, a load or a store, or no instruction"
+  pub has-step : Bool
+  -- "The vector operands, in the standard's order, are a, b, c"; "splat takes no source register": how many there are
+  pub operands : ℕ
+  -- "The destination is used only where the result is a vector."
+  pub gives-vector : Bool
+  -- the lane count; "fields that an operation does not use are ignored": 256 there, which every byte is below
+  pub lane-count : ℕ
+  -- whether the sixteen indices are used
+  pub shuffles : Bool
+  -- the kind of the scalar that is read, if one is: "splat and replace read it. The kind must be the standard's for that instruction."
+  pub reads : List Kind
+
+abbrev pub from-vectors : ℕ → Profile
+from-vectors n =
+    record { has-step = true; operands = n; gives-vector = true; lane-count = 256; shuffles = false; reads = [] }
+
+abbrev pub no-step : Profile
+no-step = record { has-step = false; operands = 0; gives-vector = false; lane-count = 256; shuffles = false; reads = [] }
+
+abbrev pub profile : Instruction → Profile
+profile none = no-step
+profile memory = no-step
+profile const = from-vectors 0
+profile shuffled = record { has-step = true; operands = 2; gives-vector = true; lane-count = 256; shuffles = true; reads = [] }
+profile (vector₁ f) = from-vectors 1
+profile (vector₂ f) = from-vectors 2
+profile (vector₃ f) = from-vectors 3
+profile (shifted f) = from-vectors 1
+profile (tested f) = record { has-step = true; operands = 1; gives-vector = false; lane-count = 256; shuffles = false; reads = [] }
+profile (splatted k f) = record { has-step = true; operands = 0; gives-vector = true; lane-count = 256; shuffles = false; reads = k ∷ [] }
+profile (extracted k w f) = record { has-step = true; operands = 1; gives-vector = false; lane-count = 128 / w; shuffles = false; reads = [] }
+profile (replaced k w f) = record { has-step = true; operands = 1; gives-vector = true; lane-count = 128 / w; shuffles = false; reads = k ∷ [] }
+
+-- 3: "a used register number above 15"
+abbrev pub used : Profile → List ℕ → List ℕ
+used p s = take (p .operands) (sources s) ++ cond (p .gives-vector) (destination s ∷ []) []
+
+abbrev pub all-registers : List ℕ → Bool
+all-registers [] = true
+all-registers (r ∷ rs) = cond (leb r 15) (all-registers rs) false
+
+-- 6: "scalar of the wrong kind"
+abbrev pub kind-number : Kind → ℕ
+kind-number i32 = 1
+kind-number i64 = 2
+kind-number f32 = 3
+kind-number f64 = 4
+
+abbrev pub right-kind : List Kind → Kind → Bool
+right-kind [] held = true
+right-kind (k ∷ ks) held = eqb (kind-number held) (kind-number k)
+
+-- The refusals of a step, "checked in the order 1 to 7"; 0 for none.
+abbrev pub unless : Bool → ℕ → ℕ → ℕ
+unless ok n later = cond ok later n
+
+-- 4: "lane not below the lane count"; 5: "a shuffle index above 31"
+unfoldable pub refusal : Profile → Kind → List ℕ → ℕ
+refusal p held s =
+    unless (p .has-step) 2
+    (unless (all-registers (used p s)) 3
+    (unless (ltb (lane s) (p .lane-count)) 4
+    (unless (cond (p .shuffles) (legal (indices s)) true) 5
+    (unless (right-kind (p .reads) held) 6 0))))
+
+-- The vector of a source, and the state with a vector at the destination, or with another scalar.
+abbrev pub source : Machine → List ℕ → ℕ → ℕ
+source m s j = getD (m .registers) (getD (sources s) j 0) 0
+
+abbrev pub put : Machine → List ℕ → ℕ → Machine
+put m s v = record { registers = set (m .registers) (destination s) v; kind = m .kind; bits = m .bits }
+
+abbrev pub hold : Machine → Kind → ℕ → Machine
+hold m k b = record { registers = m .registers; kind = k; bits = b }
+
+-- What a step that is not refused leaves. "Sources are read before the destination is written". "Extract, bitmask, any-true and all-true set
+-- [the scalar] (the last three as i32); splat and replace read it."
+unfoldable pub effect : Instruction → Machine → List ℕ → Machine
+effect none m s = m
+effect memory m s = m
+effect const m s = put m s (constant s)
+effect shuffled m s = put m s (shuffle (indices s) (source m s 0) (source m s 1))
+effect (vector₁ f) m s = put m s (f (source m s 0))
+effect (vector₂ f) m s = put m s (f (source m s 0) (source m s 1))
+effect (vector₃ f) m s = put m s (f (source m s 0) (source m s 1) (source m s 2))
+effect (shifted f) m s = put m s (f (count s) (source m s 0))
+effect (tested f) m s = hold m i32 (f (source m s 0))
+effect (splatted k f) m s = put m s (f (m .bits))
+effect (extracted k w f) m s = hold m k (f (source m s 0) (lane s))
+effect (replaced k w f) m s = put m s (f (source m s 0) (lane s) (m .bits))
+
+-- A step: the state after it, or the number of its refusal.
+abbrev pub answer : ℕ → Machine → Answer Machine
+answer n m = cond (eqb n 0) (given m) (refused n)
+
+unfoldable pub step : Machine → List ℕ → Answer Machine
+unfolding refusal effect
+step m s = answer (refusal (profile (instruction (operation s))) (m .kind) s) (effect (instruction (operation s)) m s)
+
+-- What a run ends in. "The count is the number of steps before the refused one, or all."
+pub record Ending : Type 0 where
+  pub machine : Machine
+  pub done : ℕ
+  pub number : ℕ
+
+-- A refused step leaves the "state after the steps before".
+abbrev pub after : Answer Machine → (Machine → Ending) → (ℕ → Ending) → Ending
+after (given m) go stop = go m
+after (refused n) go stop = stop n
+
+-- The steps of 32 bytes each that are left, after `done` steps before them.
+unfoldable pub steps : ℕ → List ℕ → Machine → ℕ → Ending
+steps zero list m done = record { machine = m; done = done; number = 0 }
+steps (suc left) list m done =
+    after (step m (take 32 list)) (λ next. steps left (drop 32 list) next (suc done))
+    (λ n. record { machine = m; done = done; number = n })
+
+-- 1: "list length not a multiple of 32, or above 8,192": "0 steps, state as given".
+abbrev pub whole-steps : List ℕ → Bool
+whole-steps list = cond (eqb (length list % 32) 0) (leb (length list) 8192) false
+
+unfoldable pub run : List ℕ → Machine → Ending
+run list m =
+    cond (whole-steps list) (steps (length list / 32) list m 0) (record { machine = m; done = 0; number = 1 })

@@ -1,0 +1,5 @@
+pub mod Definition
+pub mod Code
+pub mod Families
+pub mod Doing
+pub mod Run

@@ -1,0 +1,110 @@
+// Judging a step: refusals 2 to 6, in that order (document 01: "Checked in the order 1 to 7").
+ghost use mathlib.Core.Path.{_≡_};
+ghost use mathlib.Core.Bool.{true, false, cond};
+ghost use lib.Dec.{ltb, leb};
+ghost use lib.ListN.{getD, take};
+ghost use Rattle.standard.specs.Refusal.{legal};
+ghost use Rattle.calculator.specs.Definition.{unless, refusal, all-registers, used, sources, indices, right-kind};
+ghost use Rattle.calculator.specs.Code.{profile-of, kind-of, kinds-of};
+use crate::decide::Profile;
+use crate::scalar::Scalar;
+
+pub const OPERATION: u8 = 2;
+
+pub const REGISTER: u8 = 3;
+
+pub const LANE: u8 = 4;
+
+pub const INDEX: u8 = 5;
+
+pub const KIND: u8 = 6;
+
+// Whether a register number is one, and so are the others.
+fn with_others(register: u8, others: bool) -> bool
+    ensures { λ r. ⌜ r ≡ cond (leb register 15) others false ⌝ }
+{
+    if register <= 15 { others } else { false }
+}
+
+// "a used register number above 15": of the sources as many as the operation has.
+fn sources_fit(operands: u8, s: [u8; 32]) -> bool
+    ensures { λ r. ⌜ r ≡ all-registers (take operands (sources s)) ⌝ }
+{
+    match operands {
+        0 => true,
+        1 => with_others(s[3], true),
+        2 => with_others(s[3], with_others(s[4], true)),
+        _ => with_others(s[3], with_others(s[4], with_others(s[5], true))),
+    }
+}
+
+// "The destination is used only where the result is a vector."
+fn registers_fit(p: Profile, s: [u8; 32]) -> bool
+    ensures { λ r. ⌜ r ≡ all-registers (used (profile-of p) s) ⌝ }
+{
+    if sources_fit(p.operands, s) {
+        if p.gives_vector {
+            with_others(s[2], true)
+        } else {
+            true
+        }
+    } else {
+        false
+    }
+}
+
+// "a shuffle index above 31"
+fn indices_fit(s: [u8; 32]) -> bool
+    ensures { λ r. ⌜ r ≡ legal (indices s) ⌝ }
+{
+    for i in 16..32 {
+        if 31 < s[i] {
+            return false;
+        }
+    }
+    true
+}
+
+// "scalar of the wrong kind"
+fn kind_fits(reads: u8, scalar: Scalar) -> bool
+    ensures { λ r. ⌜ r ≡ right-kind (kinds-of reads) (kind-of scalar) ⌝ }
+{
+    match reads {
+        0 => true,
+        1 => scalar.kind() == 1,
+        2 => scalar.kind() == 2,
+        3 => scalar.kind() == 3,
+        4 => scalar.kind() == 4,
+        _ => true,
+    }
+}
+
+fn lane_fits(lanes: u16, s: [u8; 32]) -> bool
+    ensures { λ r. ⌜ r ≡ ltb (getD s 6 0) lanes ⌝ }
+{
+    (s[6] as u16) < lanes
+}
+
+fn shuffle_fits(shuffles: bool, s: [u8; 32]) -> bool
+    ensures { λ r. ⌜ r ≡ cond shuffles (legal (indices s)) true ⌝ }
+{
+    if shuffles { indices_fit(s) } else { true }
+}
+
+// A refusal's number where its test fails, else what the later tests say.
+fn first(ok: bool, number: u8, later: u8) -> u8
+    ensures { λ r. ⌜ r ≡ unless ok number later ⌝ }
+{
+    if ok { later } else { number }
+}
+
+// The number of the first refusal that a step meets, or 0.
+pub fn judge(p: Profile, scalar: Scalar, s: [u8; 32]) -> u8
+    ensures { λ r. ⌜ r ≡ refusal (profile-of p) (kind-of scalar) s ⌝ }
+{
+    let kind = first(kind_fits(p.reads, scalar), KIND, 0);
+    let index = first(shuffle_fits(p.shuffles, s), INDEX, kind);
+    let lane = first(lane_fits(p.lane_count, s), LANE, index);
+    let register = first(registers_fit(p, s), REGISTER, lane);
+    first(p.has_step, OPERATION, register)
+}

@@ -1,0 +1,10 @@
+// The calculator of document 01: 16 registers, one scalar, and runs of steps of 32 bytes.
+pub mod decide;
+pub mod doing;
+pub mod fields;
+pub mod judge;
+pub mod moves;
+pub mod run;
+pub mod scalar;
+pub mod state;
+pub mod step;
