@@ -1,4 +1,4 @@
-// The calculator of document 01: 16 registers, one scalar, and runs of steps of 32 bytes.
+// The calculator of document 01: 16 registers, one scalar, and steps of 32 bytes, each decided, judged and done.
 pub mod decide;
 pub mod doing;
 pub mod fields;

@@ -1,4 +1,4 @@
-// The answer to a request: the family of its function, by the function's number (its line in functions.tsv, the first after the heading being 0).
+// The answer to a request: the family of its function, by the function's number (its line in docs/functions.tsv, the first after the heading being 0).
 ghost use Prim.Native.Nat.{_≤_};
 use crate::answer::Answer;
 use crate::arithmetic;
