@@ -2,6 +2,6 @@ pub mod Examples
 pub mod Registers
 pub mod Rows
 pub mod Judged
-pub mod Arms
-pub mod Classes
-pub mod Passed
+pub mod Done
+pub mod Slices
+pub mod Runs

@@ -1,28 +1,16 @@
--- What the calculator's scalar, state and profile stand for in the definition.
+-- What the calculator's state, profile and answers stand for in the definition.
 use Prim.Native.Nat.{ℕ, _-_, _/_, _%_}
 use mathlib.Core.List.{List, [], _∷_, map}
 use lib.ListN.{getD, set}
 use lib.Dec.{eqb}
-use Rattle.standard.specs.Integer.{modulo}
 use Rattle.standard.specs.Instruction.{Kind, i32, i64, f32, f64}
-use Rattle.lane.specs.Scalar.{f32-bits, f64-bits}
+use Rattle.standard.specs.Refusal.{Answer, given, refused}
 use Rattle.simd.specs.Number.{number}
-use Rattle.calculator.specs.Definition.{Machine, Profile}
+use Rattle.calculator.specs.Definition.{Machine, Profile, source, lane, count, indices, hold}
 use Rattle.calculator.specs.declared.decide.Profile as code
-use Rattle.calculator.specs.declared.scalar.Scalar.{Scalar}
+use Rattle.operation.specs.Outcome.{Operands, Outcome, vector, scalar}
+use Rattle.operation.specs.Code.{kind-of, bits-of}
 use Rattle.calculator.specs.declared.state.State.{State}
-
-abbrev pub kind-of : Scalar → Kind
-kind-of (Scalar.I32 z) = i32
-kind-of (Scalar.I64 z) = i64
-kind-of (Scalar.F32 x) = f32
-kind-of (Scalar.F64 x) = f64
-
-abbrev pub bits-of : Scalar → ℕ
-bits-of (Scalar.I32 z) = modulo 32 z
-bits-of (Scalar.I64 z) = modulo 64 z
-bits-of (Scalar.F32 x) = f32-bits x
-bits-of (Scalar.F64 x) = f64-bits x
 
 abbrev pub machine : State → Machine
 machine s = record { registers = map number (s .registers); kind = kind-of (s .scalar); bits = bits-of (s .scalar) }
@@ -30,6 +18,29 @@ machine s = record { registers = map number (s .registers); kind = kind-of (s .s
 -- a vector in a register
 abbrev pub written : Machine → ℕ → ℕ → Machine
 written m i v = record { registers = set (m .registers) i v; kind = m .kind; bits = m .bits }
+
+-- the operands of a step, in a state
+abbrev pub operands : Machine → List ℕ → Operands
+operands m s =
+    record {
+      a = source m s 0;
+      b = source m s 1;
+      c = source m s 2;
+      lane = lane s;
+      count = count s;
+      immediate = indices s;
+      kind = m .kind;
+      bits = m .bits;
+    }
+
+-- what an outcome leaves of a state: a vector in register i, another scalar, or nothing new
+abbrev pub made : Machine → ℕ → Outcome → Machine
+made m i (vector v) = written m i v
+made m i (scalar k b) = hold m k b
+
+abbrev pub settled : Machine → ℕ → Answer Outcome → Machine
+settled m i (given o) = made m i o
+settled m i (refused n) = m
 
 -- the kind of a number, if there is one
 abbrev pub kinds-of : ℕ → List Kind

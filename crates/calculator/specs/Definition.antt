@@ -3,18 +3,22 @@
 use Prim.Native.Nat.{ℕ, zero, suc, _+_, _*_, _/_, _%_}
 use mathlib.Core.Bool.{Bool, true, false, cond}
 use mathlib.Core.List.{List, [], _∷_, _++_}
-use lib.ListN.{length, getD, set, take, drop}
+use lib.ListN.{length, getD, set, take, drop, replicate}
 use lib.Dec.{ltb, leb, eqb}
 use Rattle.standard.specs.Lanes.{joined}
 use Rattle.standard.specs.Vector.{shuffle}
 use Rattle.standard.specs.Refusal.{Answer, given, refused, legal}
-use Rattle.standard.specs.Instruction.{Kind, i32, i64, f32, f64, Instruction, none, memory, const, shuffled, vector₁, vector₂, vector₃, shifted, tested, splatted, extracted, replaced, instruction}
+use Rattle.standard.specs.Instruction.{Kind, kind-number, i32, i64, f32, f64, Instruction, none, memory, const, shuffled, vector₁, vector₂, vector₃, shifted, tested, splatted, extracted, replaced, instruction}
 
 -- "State: 16 registers and one scalar. The scalar is an i32, an i64, an f32 or an f64": its kind and its bits.
 pub record Machine : Type 0 where
   pub registers : List ℕ
   pub kind : Kind
   pub bits : ℕ
+
+-- "starts from zero registers and scalar i32 0"
+abbrev pub start : Machine
+start = record { registers = replicate 16 0; kind = i32; bits = 0 }
 
 -- "A step is 32 bytes": the n of them from a place on, and the number that they stand for. "Numbers are little-endian."
 abbrev pub bytes : List ℕ → ℕ → ℕ → List ℕ
@@ -93,12 +97,6 @@ all-registers [] = true
 all-registers (r ∷ rs) = cond (leb r 15) (all-registers rs) false
 
 -- 6: "scalar of the wrong kind"
-abbrev pub kind-number : Kind → ℕ
-kind-number i32 = 1
-kind-number i64 = 2
-kind-number f32 = 3
-kind-number f64 = 4
-
 abbrev pub right-kind : List Kind → Kind → Bool
 right-kind [] held = true
 right-kind (k ∷ ks) held = eqb (kind-number held) (kind-number k)

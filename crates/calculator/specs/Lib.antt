@@ -1,5 +1,3 @@
 pub mod Definition
 pub mod Code
-pub mod Families
-pub mod Doing
 pub mod Run

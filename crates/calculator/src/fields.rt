@@ -2,9 +2,12 @@
 ghost use mathlib.Core.Path.{_≡_};
 ghost use mathlib.Core.List.{_∷_, []};
 ghost use Rattle.standard.specs.Lanes.{joined};
-ghost use Rattle.simd.specs.Number.{number};
+ghost use Rattle.operation.specs.Code.{operands-of};
 ghost use Rattle.calculator.specs.Definition;
-use simd::V128;
+ghost use Rattle.calculator.specs.Code;
+ghost use Rattle.calculator.specs.Code.{machine};
+use crate::state::State;
+use operation::outcome::Operands;
 
 fn pair(a: u8, b: u8) -> u16
     ensures { λ r. ⌜ r ≡ joined 8 (a ∷ b ∷ []) ⌝ }
@@ -18,23 +21,6 @@ fn quad(a: u8, b: u8, c: u8, d: u8) -> u32
     (a as u32) + 256 * ((b as u32) + 256 * ((c as u32) + 256 * (d as u32)))
 }
 
-fn half(a: u8, b: u8, c: u8, d: u8, e: u8, f: u8, g: u8, h: u8) -> u64
-    ensures { λ r. ⌜ r ≡ joined 8 (a ∷ b ∷ c ∷ d ∷ e ∷ f ∷ g ∷ h ∷ []) ⌝ }
-{
-    (a as u64)
-        + 256
-            * ((b as u64)
-                + 256
-                    * ((c as u64)
-                        + 256
-                            * ((d as u64)
-                                + 256
-                                    * ((e as u64)
-                                        + 256
-                                            * ((f as u64)
-                                                + 256 * ((g as u64) + 256 * ((h as u64))))))))
-}
-
 pub fn operation(s: [u8; 32]) -> u16
     ensures { λ r. ⌜ r ≡ Definition.operation s ⌝ }
 {
@@ -45,15 +31,6 @@ pub fn count(s: [u8; 32]) -> u32
     ensures { λ r. ⌜ r ≡ Definition.count s ⌝ }
 {
     quad(s[8], s[9], s[10], s[11])
-}
-
-pub fn constant(s: [u8; 32]) -> V128
-    ensures { λ r. ⌜ number r ≡ Definition.constant s ⌝ }
-{
-    V128 {
-        lo: half(s[16], s[17], s[18], s[19], s[20], s[21], s[22], s[23]),
-        hi: half(s[24], s[25], s[26], s[27], s[28], s[29], s[30], s[31]),
-    }
 }
 
 pub fn indices(s: [u8; 32]) -> [u8; 16]
@@ -77,4 +54,20 @@ pub fn indices(s: [u8; 32]) -> [u8; 16]
         s[30],
         s[31],
     ]
+}
+
+// What the operation of a step may take, from the step and the state before it: "Sources are read before the destination is written".
+pub fn operands(state: State, s: [u8; 32]) -> Operands
+    ensures { λ r. ⌜ operands-of r ≡ Code.operands (machine state) s ⌝ }
+{
+    let scalar = state.scalar;
+    Operands {
+        a: state.register(s[3]),
+        b: state.register(s[4]),
+        c: state.register(s[5]),
+        lane: s[6],
+        count: count(s),
+        immediate: indices(s),
+        scalar,
+    }
 }

@@ -5,9 +5,10 @@ ghost use lib.Dec.{ltb, leb};
 ghost use lib.ListN.{getD, take};
 ghost use Rattle.standard.specs.Refusal.{legal};
 ghost use Rattle.calculator.specs.Definition.{unless, refusal, all-registers, used, sources, indices, right-kind};
-ghost use Rattle.calculator.specs.Code.{profile-of, kind-of, kinds-of};
+ghost use Rattle.calculator.specs.Code.{profile-of, kinds-of};
+ghost use Rattle.operation.specs.Code.{kind-of};
 use crate::decide::Profile;
-use crate::scalar::Scalar;
+use operation::scalar::Scalar;
 
 pub const OPERATION: u8 = 2;
 

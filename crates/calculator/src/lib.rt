@@ -1,10 +1,7 @@
 // The calculator of document 01: 16 registers, one scalar, and steps of 32 bytes, each decided, judged and done.
 pub mod decide;
-pub mod doing;
 pub mod fields;
 pub mod judge;
-pub mod moves;
 pub mod run;
-pub mod scalar;
 pub mod state;
 pub mod step;

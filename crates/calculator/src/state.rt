@@ -2,9 +2,11 @@
 ghost use mathlib.Core.Path.{_≡_};
 ghost use lib.ListN.{getD};
 ghost use Rattle.simd.specs.Number;
-ghost use Rattle.calculator.specs.Definition.{hold};
-ghost use Rattle.calculator.specs.Code.{machine, written, kind-of, bits-of};
-use crate::scalar::Scalar;
+ghost use Rattle.calculator.specs.Definition.{hold, start};
+ghost use Rattle.calculator.specs.Code.{machine, written, settled};
+ghost use Rattle.operation.specs.Code.{kind-of, bits-of, outcome-of};
+use operation::outcome::Outcome;
+use operation::scalar::Scalar;
 use simd::V128;
 
 pub struct State {
@@ -13,6 +15,16 @@ pub struct State {
 }
 
 impl State {
+    // "starts from zero registers and scalar i32 0"
+    pub fn zero() -> State
+        ensures { λ r. ⌜ machine r ≡ start ⌝ }
+    {
+        State {
+            registers: [V128 { lo: 0, hi: 0 }; 16],
+            scalar: Scalar::I32(0),
+        }
+    }
+
     // The vector of a register; 0 where the number is no register's.
     pub fn register(self, number: u8) -> V128
         ensures { λ r. ⌜ Number.number r ≡ getD (machine self .registers) number 0 ⌝ }
@@ -41,5 +53,16 @@ impl State {
     {
         let registers = self.registers;
         State { registers, scalar }
+    }
+
+    // What an operation's outcome leaves: a vector in a register, another scalar, or, refused, the state as it is.
+    pub fn settle(self, number: u8, outcome: Outcome) -> State
+        ensures { λ r. ⌜ machine r ≡ settled (machine self) number (outcome-of outcome) ⌝ }
+    {
+        match outcome {
+            Outcome::Vector(v) => self.with_register(number, v),
+            Outcome::Scalar(x) => self.with_scalar(x),
+            Outcome::Refused(_) => self,
+        }
     }
 }

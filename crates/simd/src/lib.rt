@@ -141,13 +141,14 @@ fn half32(a: u32, b: u32) -> u64
 }
 
 impl V128 {
-    fn lanes8(self) -> [u8; 16]
+    // The sixteen bytes, byte 0 first, and a vector of them.
+    pub fn lanes8(self) -> [u8; 16]
         ensures { λ r. ⌜ r ≡ lanes 8 (number self) ⌝ }
     {
         split8(self.lo, self.hi)
     }
 
-    fn join8(a: [u8; 16]) -> V128
+    pub fn join8(a: [u8; 16]) -> V128
         ensures { λ r. ⌜ number r ≡ joined 8 a ⌝ }
     {
         V128 {

@@ -8,9 +8,15 @@ use Rattle.standard.specs.Integer.{iadd, isub, imul, ineg, iabs, ipopcnt
 use Rattle.standard.specs.Float.{feq, fne, flt, fgt, fle, fge, fneg, fabs, fpmin, fpmax}
 use Rattle.standard.specs.Vector.{extend, extmul, extadd-pairwise, dot, narrow, swizzle, any-true, all-true, bitmask}
 
--- The kinds of a scalar.
+-- The kinds of a scalar, and a number for each, by which two are told apart.
 pub data Kind : Type 0 where
   i32 i64 f32 f64 : Kind
+
+abbrev pub kind-number : Kind → ℕ
+kind-number i32 = 1
+kind-number i64 = 2
+kind-number f32 = 3
+kind-number f64 = 4
 
 -- What an instruction takes and gives. A scalar is its bits as a number; the width of a lane gives the lane count.
 pub data Instruction : Type 0 where

@@ -1,0 +1,2 @@
+pub mod ScalarKinds
+pub mod Arms

@@ -1,0 +1,35 @@
+-- `operation::from_scalar::f64x2_replace_lane` meets its contract: the kind that it reads, or a refusal. Assumes nothing.
+use mathlib.Core.List.{[], _∷_}
+use Rattle.operation.proofs.ScalarKinds.{other, mapped-cond}
+use borrow.Author.Needs.{needs}
+use Rattle.operation.proofs.from_scalar.f64x2_replace_lane.Statement.{statement}
+use Rattle.operation.proofs.from_scalar.f64x2_replace_lane.Tie as tie
+
+enum-known-scalar : tie.Need-enum-known-scalar
+enum-known-scalar c = search needs
+
+f64x2-replace-lane-requires : tie.Need-f64x2-replace-lane-requires
+f64x2-replace-lane-requires c κs = search needs
+
+of-vector-requires : tie.Need-of-vector-requires
+of-vector-requires c κs = search needs
+
+wrong-kind-requires : tie.Need-wrong-kind-requires
+wrong-kind-requires c κs = search needs
+
+returns : tie.Need-returns
+returns c = rw (c .before .before .before .scalar .given .1, c .of-vector .ensures, c .before .f64x2-replace-lane .ensures, mapped-cond)
+
+returns-2 : tie.Need-returns-2
+returns-2 c = rw (other 3 (0 ∷ 1 ∷ 2 ∷ []) _ tt (c .before .match .keys2)) (c .wrong-kind .ensures)
+
+pub f64x2-replace-lane-spec : {M : Type 1} → statement M
+f64x2-replace-lane-spec =
+    tie.close
+    (tie.spec
+    enum-known-scalar
+    f64x2-replace-lane-requires
+    of-vector-requires
+    wrong-kind-requires
+    returns
+    returns-2)

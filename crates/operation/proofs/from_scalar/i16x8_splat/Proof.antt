@@ -1,0 +1,32 @@
+-- `operation::from_scalar::i16x8_splat` meets its contract: the kind that it reads, or a refusal. Assumes nothing.
+use mathlib.Core.Path.{_≡_, refl}
+use mir.Syntax.{w16, w32}
+use mir.Val.{toZ, ofZ}
+use Rattle.lane.proofs.Magnitude.{kept}
+use mathlib.Core.List.{[], _∷_}
+use Rattle.operation.proofs.ScalarKinds.{other}
+use borrow.Author.Needs.{needs}
+use Rattle.operation.proofs.from_scalar.i16x8_splat.Statement.{statement}
+use Rattle.operation.proofs.from_scalar.i16x8_splat.Tie as tie
+
+enum-known-scalar : tie.Need-enum-known-scalar
+enum-known-scalar c = search needs
+
+low16-requires : tie.Need-low16-requires
+low16-requires c κs = search needs
+
+i16x8-splat-requires : tie.Need-i16x8-splat-requires
+i16x8-splat-requires c κs = search needs
+
+returns : tie.Need-returns
+returns c =
+    let p = c .before .before .before .scalar .given .0 .0 in
+    let e : toZ w32 (ofZ w32 p) ≡ p = search needs in
+    rw (c .before .before .before .scalar .given .1, c .i16x8-splat .ensures, kept w16 (c .before .low16 .ok) refl, c .before .low16 .ensures, e)
+
+returns-2 : tie.Need-returns-2
+returns-2 c = rw (other 0 (1 ∷ 2 ∷ 3 ∷ []) _ tt (c .match .keys2))
+
+pub i16x8-splat-spec : {M : Type 1} → statement M
+i16x8-splat-spec =
+    tie.close (tie.spec enum-known-scalar low16-requires i16x8-splat-requires returns returns-2)

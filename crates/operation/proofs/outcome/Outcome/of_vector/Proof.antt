@@ -1,0 +1,19 @@
+-- `operation::outcome::Outcome::of_vector` meets its contract: the value or the refusal. Assumes nothing.
+use borrow.Author.Needs.{needs}
+use Rattle.operation.proofs.outcome.Outcome.of_vector.Statement.{statement}
+use Rattle.operation.proofs.outcome.Outcome.of_vector.Tie as tie
+
+enum-known-answer : tie.Need-enum-known-answer
+enum-known-answer c = search needs
+
+enum-known-answer-2 : tie.Need-enum-known-answer-2
+enum-known-answer-2 c = search needs
+
+returns : tie.Need-returns
+returns c = rw (c .before .answer .given .1)
+
+returns-2 : tie.Need-returns-2
+returns-2 c = rw (c .before .answer2 .given .1)
+
+pub of-vector-spec : {M : Type 1} → statement M
+of-vector-spec = tie.close (tie.spec enum-known-answer enum-known-answer-2 returns returns-2)
