@@ -1,15 +1,13 @@
--- The definition's run, computed: document 01's example of two steps, each refusal and its limits, in one table with one theorem. Assumes nothing.
+-- The definition's run, computed: document 01's example of two steps and each refusal in one table with one theorem, and the lengths that pass.
+-- Assumes nothing.
 use mathlib.Core.Path.{_≡_, refl}
+use mathlib.Core.Bool.{Bool, true, false}
 use mathlib.Core.List.{List, [], _∷_, _++_, map}
-use Prim.Native.Nat.{ℕ, _*_}
+use Prim.Native.Nat.{ℕ}
 use lib.ListN.{replicate, set}
 use Rattle.standard.specs.Lanes.{joined, unary, extract}
 use Rattle.standard.specs.Instruction.{i32, table, instruction}
-use Rattle.calculator.specs.Definition.{Machine, Ending, refusal, effect, step, steps, run}
-
--- "starts from zero registers and scalar i32 0"
-pub start : Machine
-start = record { registers = replicate 16 0; kind = i32; bits = 0 }
+use Rattle.calculator.specs.Definition.{Machine, Ending, start, refusal, effect, step, steps, whole-steps, run}
 
 ending : List ℕ → ℕ → ℕ → Ending
 ending registers done number = record { machine = record { registers = registers; kind = i32; bits = 0 }; done = done; number = number }
@@ -54,5 +52,9 @@ cases =
     ∷ []
 
 pub examples-hold : map (λ (c : Case). run (c .list) start) cases ≡ map (λ (c : Case). c .expected) cases
-unfolding start cases run steps step refusal effect instruction table unary extract
+unfolding cases run steps step refusal effect instruction table unary extract
 examples-hold = refl
+
+-- "8,192 bytes pass; 8,160 pass; 8,191, 8,193 and 8,224 are refused; an empty list does 0 steps with 0."
+pub lengths-that-pass : map (λ (n : ℕ). whole-steps (replicate n 0)) (0 ∷ 32 ∷ 8160 ∷ 8192 ∷ 8191 ∷ 8193 ∷ 8224 ∷ []) ≡ true ∷ true ∷ true ∷ true ∷ false ∷ false ∷ false ∷ []
+lengths-that-pass = refl

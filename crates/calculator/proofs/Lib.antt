@@ -5,3 +5,5 @@ pub mod Judged
 pub mod Done
 pub mod Slices
 pub mod Runs
+pub mod Marks
+pub mod Coincide

@@ -8,17 +8,14 @@ ghost use Rattle.calculator.specs.Definition.{unless, refusal, all-regis
 ghost use Rattle.calculator.specs.Code.{profile-of, kinds-of};
 ghost use Rattle.operation.specs.Code.{kind-of};
 use crate::decide::Profile;
+use operation::outcome::KIND;
+use operation::outcome::OPERATION;
 use operation::scalar::Scalar;
+use simd::answer::INDEX;
+use simd::answer::LANE;
 
-pub const OPERATION: u8 = 2;
-
+// Refusal 3: "a used register number above 15".
 pub const REGISTER: u8 = 3;
-
-pub const LANE: u8 = 4;
-
-pub const INDEX: u8 = 5;
-
-pub const KIND: u8 = 6;
 
 // Whether a register number is one, and so are the others.
 fn with_others(register: u8, others: bool) -> bool
@@ -27,7 +24,7 @@ fn with_others(register: u8, others: bool) -> bool
     if register <= 15 { others } else { false }
 }
 
-// "a used register number above 15": of the sources as many as the operation has.
+// Of the sources as many as the operation has.
 fn sources_fit(operands: u8, s: [u8; 32]) -> bool
     ensures { λ r. ⌜ r ≡ all-registers (take operands (sources s)) ⌝ }
 {
@@ -103,9 +100,10 @@ fn first(ok: bool, number: u8, later: u8) -> u8
 pub fn judge(p: Profile, scalar: Scalar, s: [u8; 32]) -> u8
     ensures { λ r. ⌜ r ≡ refusal (profile-of p) (kind-of scalar) s ⌝ }
 {
-    let kind = first(kind_fits(p.reads, scalar), KIND, 0);
-    let index = first(shuffle_fits(p.shuffles, s), INDEX, kind);
-    let lane = first(lane_fits(p.lane_count, s), LANE, index);
-    let register = first(registers_fit(p, s), REGISTER, lane);
-    first(p.has_step, OPERATION, register)
+    let registers = registers_fit(p, s);
+    let lane = lane_fits(p.lane_count, s);
+    let indices = shuffle_fits(p.shuffles, s);
+    let kind = kind_fits(p.reads, scalar);
+    let later = first(lane, LANE, first(indices, INDEX, first(kind, KIND, 0)));
+    first(p.has_step, OPERATION, first(registers, REGISTER, later))
 }

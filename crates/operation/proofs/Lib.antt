@@ -1,2 +1,3 @@
 pub mod ScalarKinds
 pub mod Arms
+pub mod Coincide

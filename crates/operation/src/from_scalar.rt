@@ -10,6 +10,7 @@ ghost use Rattle.standard.specs.Refusal.{Answer, refused, lane-first};
 ghost use Rattle.simd.specs.Number.{number};
 ghost use Rattle.operation.specs.Outcome.{Outcome, vector, at-kind};
 ghost use Rattle.operation.specs.Code.{kind-of, bits-of, outcome-of};
+use crate::outcome::KIND;
 use crate::outcome::Outcome;
 use crate::scalar::Scalar;
 use lane::reinterpret::signed8;
@@ -17,9 +18,6 @@ use lane::reinterpret::signed16;
 use lane::reinterpret::unsigned32;
 use simd::V128;
 use simd::answer::LANE;
-
-// "scalar of the wrong kind"
-pub const KIND: u8 = 6;
 
 // "For 8- and 16-bit lanes the low bits of an i32 are used."
 fn low8(z: i32) -> i8

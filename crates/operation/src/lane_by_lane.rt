@@ -7,12 +7,10 @@ ghost use Rattle.operation.specs.Outcome.{outcome};
 ghost use Rattle.operation.specs.Code.{operands-of, outcome-of};
 ghost use Rattle.operation.specs.Numbers.{member, from-12, from-35, from-55, from-77, from-96, from-124, from-142, from-160, from-192, from-224};
 use crate::from_scalar::*;
+use crate::outcome::OPERATION;
 use crate::outcome::Operands;
 use crate::outcome::Outcome;
 use simd::V128;
-
-// Refusal 2: "operation number without a calculator step".
-pub const OPERATION: u8 = 2;
 
 pub fn lane_by_lane(op: u16, o: Operands) -> Outcome
     ensures { λ r. ⌜ outcome-of r ≡ outcome (instruction op) (operands-of o) ⌝ }

@@ -16,6 +16,12 @@ use simd::answer::I64Answer;
 use simd::answer::U32Answer;
 use simd::answer::VectorAnswer;
 
+// Refusal 2: "operation number without a calculator step".
+pub const OPERATION: u8 = 2;
+
+// Refusal 6: "scalar of the wrong kind".
+pub const KIND: u8 = 6;
+
 // What any operation may take; each uses its own.
 pub struct Operands {
     pub a: V128,
