@@ -35,7 +35,7 @@ pub endings-coincide : (r q : Ending) → HeldAll (r .state .registers) → Held
 endings-coincide r q hr hq e =
     record {
       registers =
-        registers-coincide (r .state .registers) (q .state .registers) hr hq (ap (λ (x : definition.Ending). x .machine .registers) e);
+          registers-coincide (r .state .registers) (q .state .registers) hr hq (ap (λ (x : definition.Ending). x .machine .registers) e);
       kind = ap (λ (x : definition.Ending). x .machine .kind) e;
       bits = ap (λ (x : definition.Ending). x .machine .bits) e;
       done = ap (λ (x : definition.Ending). x .done) e;
