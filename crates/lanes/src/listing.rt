@@ -1,0 +1,59 @@
+// The listing of document 01: fixed byte strings, written around fields of digits. Each function says whether all of it was written.
+use crate::text;
+use calculator::run::Ending;
+use libc::STDOUT_FILENO;
+use operation::scalar::Scalar;
+use simd::V128;
+
+fn put(bytes: &[u8]) -> bool {
+    io::write_all(STDOUT_FILENO, bytes)
+}
+
+fn decimal(n: u64) -> bool {
+    io::print_decimal(STDOUT_FILENO, n) && put(b"\n")
+}
+
+// "`r` and two decimal digits, a space, then 16 bytes in hex, byte 0 first".
+fn register(number: u8, v: V128) -> bool {
+    put(b"r")
+        && put(&text::two_decimals(number))
+        && put(b" ")
+        && put(&text::vector(v))
+        && put(b"\n")
+}
+
+// "one line for each register that is not all zero, lowest number first".
+fn registers(all: [V128; 16]) -> bool {
+    for i in 0..16 {
+        let v = all[i];
+        let is_zero = v.lo == 0 && v.hi == 0;
+        if !is_zero && !register(i as u8, v) {
+            return false;
+        }
+    }
+    true
+}
+
+// "`s`, the kind and the bits in hex, highest digit first, 8 or 16 digits".
+fn scalar(s: Scalar) -> bool {
+    let bits = s.bits();
+    let is_put = match s {
+        Scalar::I32(_) => put(b"s i32 ") && put(&text::hex8(bits)),
+        Scalar::I64(_) => put(b"s i64 ") && put(&text::hex16(bits)),
+        Scalar::F32(_) => put(b"s f32 ") && put(&text::hex8(bits)),
+        Scalar::F64(_) => put(b"s f64 ") && put(&text::hex16(bits)),
+    };
+    is_put && put(b"\n")
+}
+
+pub fn write(ending: Ending) -> bool {
+    let state = ending.state;
+    let all = state.registers;
+    let held = state.scalar;
+    put(b"steps ")
+        && decimal(ending.done as u64)
+        && registers(all)
+        && scalar(held)
+        && put(b"refused ")
+        && decimal(ending.refused as u64)
+}

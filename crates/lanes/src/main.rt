@@ -1,0 +1,23 @@
+// The program `lanes` (document 01): "reads a step list from standard input, starts from zero registers and scalar i32 0, and writes" what the run
+// leaves.
+mod input;
+mod listing;
+mod text;
+
+use calculator::run::run;
+use calculator::state::State;
+
+fn main() {
+    // "list length not a multiple of 32, or above 8,192": one byte above decides, so no more than that is read.
+    let mut list = [0u8; 8193];
+    let reading = input::read_to(&mut list);
+    if reading.failed {
+        os::fail(b"standard input");
+        return;
+    }
+    let n = reading.bytes;
+    let ending = run(State::zero(), &list[..n]);
+    if !listing::write(ending) {
+        os::fail(b"standard output");
+    }
+}
