@@ -1,10 +1,11 @@
 -- What the judge passes, done: of a step that is not refused the operation's outcome leaves what the definition says. Assumes nothing.
 use mathlib.Core.Path.{_≡_, refl}
 use mathlib.Core.Bool.{Bool, true, false, cond}
-use mathlib.Core.List.{List}
-use Prim.Native.Nat.{ℕ, suc}
+use mathlib.Core.List.{List, [], _∷_}
+use Prim.Native.Nat.{ℕ, suc, _%_, _≤_}
 use native.Mathlib.Omega.{arith}
-use lib.Dec.{ltb}
+use lib.Dec.{ltb, leb}
+use borrow.Author.Tests.{leb-true}
 use Rattle.standard.specs.Instruction.{Kind, Instruction, none, memory, const, shuffled, vector₁, vector₂, vector₃, shifted, tested, splatted, extracted, replaced}
 use Rattle.standard.specs.Refusal.{legal}
 use Rattle.operation.specs.Outcome.{outcome}
@@ -12,6 +13,7 @@ use Rattle.calculator.specs.Definition.{Machine, Profile, profile, unles
 use Rattle.calculator.specs.Code.{operands, settled}
 
 record Passed (p : Profile) (k : Kind) (s : List ℕ) : Type 0 where
+  registers : all-registers (used p s) ≡ true
   lanes : ltb (lane s) (p .lane-count) ≡ true
   legal-indices : cond (p .shuffles) (legal (indices s)) true ≡ true
   kind : right-kind (p .reads) k ≡ true
@@ -28,22 +30,60 @@ passed p k s h =
     let c = one (ltb (lane s) (p .lane-count)) 3 _ (b .1) in
     let d = one (cond (p .shuffles) (legal (indices s)) true) 4 _ (c .1) in
     let e = one (right-kind (p .reads) k) 5 _ (d .1) in
-    record { lanes = c .0; legal-indices = d .0; kind = e .0 }
+    record { registers = b .0; lanes = c .0; legal-indices = d .0; kind = e .0 }
 
-leaves : (i : Instruction) (m : Machine) (s : List ℕ) → Passed (profile i) (m .kind) s → settled m (destination s) (outcome i (operands m s)) ≡ effect i m s
+both : (a b : Bool) → cond a b false ≡ true → (a ≡ true) × (b ≡ true)
+both true b h = (refl, h)
+both false b h = absurd (let z : _≡_ {A = ℕ} 0 1 = cc in omega arith)
+
+low-bits : (x : ℕ) → x ≤ 15 → x % 16 ≡ x
+low-bits x h = omega arith
+
+-- register numbers that have passed
+abbrev Low : List ℕ → Type 0
+Low [] = Unit {0}
+Low (x ∷ xs) = (x % 16 ≡ x) × Low xs
+
+low : (xs : List ℕ) → all-registers xs ≡ true → Low xs
+low [] h = tt
+low (x ∷ xs) h =
+    let b = both (leb x 15) (all-registers xs) h in
+    (low-bits x (leb-true x 15 (b .0)), low xs (b .1))
+
+leaves : (i : Instruction) (m : Machine) (s : List ℕ) → Passed (profile i) (m .kind) s → settled m (destination s % 16) (outcome i (operands m s)) ≡ effect i m s
 unfolding effect
 leaves none m s p = refl
 leaves memory m s p = refl
-leaves const m s p = refl
-leaves shuffled m s p = rw (p .legal-indices)
-leaves (vector₁ f) m s p = refl
-leaves (vector₂ f) m s p = refl
-leaves (vector₃ f) m s p = refl
-leaves (shifted f) m s p = refl
-leaves (tested f) m s p = refl
-leaves (splatted k f) m s p = rw (p .kind)
-leaves (extracted k w f) m s p = rw (p .lanes)
-leaves (replaced k w f) m s p = rw (p .lanes, p .kind)
+leaves const m s p =
+    let r = low (used (profile const) s) (p .registers) in
+    rw (r .0)
+leaves shuffled m s p =
+    let r = low (used (profile shuffled) s) (p .registers) in
+    rw (p .legal-indices, r .0, r .1 .0, r .1 .1 .0)
+leaves (vector₁ f) m s p =
+    let r = low (used (profile (vector₁ f)) s) (p .registers) in
+    rw (r .0, r .1 .0)
+leaves (vector₂ f) m s p =
+    let r = low (used (profile (vector₂ f)) s) (p .registers) in
+    rw (r .0, r .1 .0, r .1 .1 .0)
+leaves (vector₃ f) m s p =
+    let r = low (used (profile (vector₃ f)) s) (p .registers) in
+    rw (r .0, r .1 .0, r .1 .1 .0, r .1 .1 .1 .0)
+leaves (shifted f) m s p =
+    let r = low (used (profile (shifted f)) s) (p .registers) in
+    rw (r .0, r .1 .0)
+leaves (tested f) m s p =
+    let r = low (used (profile (tested f)) s) (p .registers) in
+    rw (r .0)
+leaves (splatted k f) m s p =
+    let r = low (used (profile (splatted k f)) s) (p .registers) in
+    rw (p .kind, r .0)
+leaves (extracted k w f) m s p =
+    let r = low (used (profile (extracted k w f)) s) (p .registers) in
+    rw (p .lanes, r .0)
+leaves (replaced k w f) m s p =
+    let r = low (used (profile (replaced k w f)) s) (p .registers) in
+    rw (p .lanes, p .kind, r .0, r .1 .0)
 
-pub done : (i : Instruction) (m : Machine) (s : List ℕ) → refusal (profile i) (m .kind) s ≡ 0 → settled m (destination s) (outcome i (operands m s)) ≡ effect i m s
+pub done : (i : Instruction) (m : Machine) (s : List ℕ) → refusal (profile i) (m .kind) s ≡ 0 → settled m (destination s % 16) (outcome i (operands m s)) ≡ effect i m s
 done i m s h = leaves i m s (passed (profile i) (m .kind) s h)

@@ -6,7 +6,7 @@ use lib.Dec.{eqb}
 use Rattle.standard.specs.Instruction.{Kind, i32, i64, f32, f64}
 use Rattle.standard.specs.Refusal.{Answer, given, refused}
 use Rattle.simd.specs.Number.{number}
-use Rattle.calculator.specs.Definition.{Machine, Profile, source, lane, count, indices, hold}
+use Rattle.calculator.specs.Definition.{Machine, Profile, lane, count, indices, hold}
 use Rattle.calculator.specs.declared.decide.Profile as code
 use Rattle.operation.specs.Outcome.{Operands, Outcome, vector, scalar}
 use Rattle.operation.specs.Code.{kind-of, bits-of}
@@ -19,13 +19,17 @@ machine s = record { registers = map number (s .registers); kind = kind-of (s .s
 abbrev pub written : Machine → ℕ → ℕ → Machine
 written m i v = record { registers = set (m .registers) i v; kind = m .kind; bits = m .bits }
 
+-- the register that the low four bits of a number name
+abbrev pub named : Machine → ℕ → ℕ
+named m i = getD (m .registers) (i % 16) 0
+
 -- the operands of a step, in a state
 abbrev pub operands : Machine → List ℕ → Operands
 operands m s =
     record {
-      a = source m s 0;
-      b = source m s 1;
-      c = source m s 2;
+      a = named m (getD s 3 0);
+      b = named m (getD s 4 0);
+      c = named m (getD s 5 0);
       lane = lane s;
       count = count s;
       immediate = indices s;

@@ -56,15 +56,19 @@ pub fn indices(s: [u8; 32]) -> [u8; 16]
     ]
 }
 
-// What the operation of a step may take, from the step and the state before it: "Sources are read before the destination is written".
+// What the operation of a step may take, from the step and the state before it: "Sources are read before the destination is written". A source is the
+// register that the low four bits of its number name: a judged number has no other.
 pub fn operands(state: State, s: [u8; 32]) -> Operands
     ensures { λ r. ⌜ operands-of r ≡ Code.operands (machine state) s ⌝ }
 {
+    let a = (s[3] % 16) as usize;
+    let b = (s[4] % 16) as usize;
+    let c = (s[5] % 16) as usize;
     let scalar = state.scalar;
     Operands {
-        a: state.register(s[3]),
-        b: state.register(s[4]),
-        c: state.register(s[5]),
+        a: state.registers[a],
+        b: state.registers[b],
+        c: state.registers[c],
         lane: s[6],
         count: count(s),
         immediate: indices(s),

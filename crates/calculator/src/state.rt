@@ -1,9 +1,8 @@
-// The calculator's state by value: a register read, one written, the scalar set.
+// The calculator's state by value.
 ghost use mathlib.Core.Path.{_≡_};
-ghost use lib.ListN.{getD};
-ghost use Rattle.simd.specs.Number;
+ghost use Prim.Native.Nat.{_%_};
 ghost use Rattle.calculator.specs.Definition.{hold, start};
-ghost use Rattle.calculator.specs.Code.{machine, written, settled};
+ghost use Rattle.calculator.specs.Code.{machine, settled};
 ghost use Rattle.operation.specs.Code.{kind-of, bits-of, outcome-of};
 use operation::outcome::Outcome;
 use operation::scalar::Scalar;
@@ -25,29 +24,6 @@ impl State {
         }
     }
 
-    // The vector of a register; 0 where the number is no register's.
-    pub fn register(self, number: u8) -> V128
-        ensures { λ r. ⌜ Number.number r ≡ getD (machine self .registers) number 0 ⌝ }
-    {
-        let i = number as usize;
-        if i < 16 {
-            self.registers[i]
-        } else {
-            V128 { lo: 0, hi: 0 }
-        }
-    }
-
-    // The state with a vector in a register; unchanged where the number is no register's.
-    pub fn with_register(mut self, number: u8, v: V128) -> State
-        ensures { λ r. ⌜ machine r ≡ written (machine self) number (Number.number v) ⌝ }
-    {
-        let i = number as usize;
-        if i < 16 {
-            self.registers[i] = v;
-        }
-        self
-    }
-
     pub fn with_scalar(self, scalar: Scalar) -> State
         ensures { λ r. ⌜ machine r ≡ hold (machine self) (kind-of scalar) (bits-of scalar) ⌝ }
     {
@@ -55,12 +31,17 @@ impl State {
         State { registers, scalar }
     }
 
-    // What an operation's outcome leaves: a vector in a register, another scalar, or, refused, the state as it is.
-    pub fn settle(self, number: u8, outcome: Outcome) -> State
-        ensures { λ r. ⌜ machine r ≡ settled (machine self) number (outcome-of outcome) ⌝ }
+    // What an operation's outcome leaves: a vector in the register that the low four bits of a number name (a judged number has no other), another
+    // scalar, or, refused, the state as it is.
+    pub fn settle(mut self, number: u8, outcome: Outcome) -> State
+        ensures { λ r. ⌜ machine r ≡ settled (machine self) (number % 16) (outcome-of outcome) ⌝ }
     {
         match outcome {
-            Outcome::Vector(v) => self.with_register(number, v),
+            Outcome::Vector(v) => {
+                let i = (number % 16) as usize;
+                self.registers[i] = v;
+                self
+            }
             Outcome::Scalar(x) => self.with_scalar(x),
             Outcome::Refused(_) => self,
         }

@@ -1,4 +1,5 @@
 -- `calculator::state::State::settle` meets its contract, by what the outcome is. Assumes nothing.
+use Rattle.calculator.proofs.Registers.{map-set}
 use borrow.Author.Needs.{needs}
 use Rattle.calculator.proofs.state.State.settle.Statement.{statement}
 use Rattle.calculator.proofs.state.State.settle.Tie as tie
@@ -6,8 +7,14 @@ use Rattle.calculator.proofs.state.State.settle.Tie as tie
 enum-known-outcome : tie.Need-enum-known-outcome
 enum-known-outcome c = search needs
 
-with-register-requires : tie.Need-with-register-requires
-with-register-requires c κs = search needs
+cast-i : tie.Need-cast-i
+cast-i c = search needs
+
+mul-v : tie.Need-mul-v
+mul-v c = search needs
+
+element-set-from-v : tie.Need-element-set-from-v
+element-set-from-v c = search needs
 
 enum-known-outcome-2 : tie.Need-enum-known-outcome-2
 enum-known-outcome-2 c = search needs
@@ -19,7 +26,7 @@ enum-told : tie.Need-enum-told
 enum-told c = search needs
 
 returns : tie.Need-returns
-returns c = rw (c .before .before .outcome .given .1) (c .with-register .ensures)
+returns c = rw (c .before .outcome .given .1, map-set)
 
 returns-2 : tie.Need-returns-2
 returns-2 c = rw (c .before .before .outcome2 .given .1) (c .with-scalar .ensures)
@@ -32,7 +39,9 @@ settle-spec =
     tie.close
     (tie.spec
     enum-known-outcome
-    with-register-requires
+    cast-i
+    mul-v
+    element-set-from-v
     enum-known-outcome-2
     with-scalar-requires
     enum-told
