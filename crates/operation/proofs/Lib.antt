@@ -1,3 +1,4 @@
 pub mod ScalarKinds
+pub mod Numbers
 pub mod Arms
 pub mod Coincide

@@ -1,11 +1,9 @@
 // An operation lane by lane: the standard's number chooses the method of the vector, the numbers in their order.
 ghost use mathlib.Core.Path.{_≡_};
-ghost use mathlib.Core.Bool.{cond};
+ghost use Prim.Native.Nat.{_≤_, _<_};
 ghost use Rattle.standard.specs.Instruction.{instruction};
-ghost use Rattle.standard.specs.Refusal.{refused};
 ghost use Rattle.operation.specs.Outcome.{outcome};
 ghost use Rattle.operation.specs.Code.{operands-of, outcome-of};
-ghost use Rattle.operation.specs.Numbers.{member, from-12, from-35, from-55, from-77, from-96, from-124, from-142, from-160, from-192, from-224};
 use crate::from_scalar::*;
 use crate::outcome::OPERATION;
 use crate::outcome::Operands;
@@ -15,12 +13,23 @@ use simd::V128;
 pub fn lane_by_lane(op: u16, o: Operands) -> Outcome
     ensures { λ r. ⌜ outcome-of r ≡ outcome (instruction op) (operands-of o) ⌝ }
 {
-    from_12(op, o)
+    match op {
+        0..=34 => from_12(op, o),
+        35..=54 => from_35(op, o),
+        55..=76 => from_55(op, o),
+        77..=95 => from_77(op, o),
+        96..=123 => from_96(op, o),
+        124..=141 => from_124(op, o),
+        142..=159 => from_142(op, o),
+        160..=191 => from_160(op, o),
+        192..=223 => from_192(op, o),
+        _ => from_224(op, o),
+    }
 }
 
-// Numbers from 12 on: v128.const, shuffle, swizzle, splat, extract and replace.
+// v128.const, shuffle, swizzle, splat, extract and replace.
 fn from_12(op: u16, o: Operands) -> Outcome
-    ensures { λ r. ⌜ outcome-of r ≡ cond (member op from-12) (outcome (instruction op) (operands-of o)) (refused 2) ⌝ }
+    ensures { λ r. ⌜ (op < 35 → outcome-of r ≡ outcome (instruction op) (operands-of o)) ⌝ }
 {
     let a = o.a;
     let b = o.b;
@@ -51,13 +60,13 @@ fn from_12(op: u16, o: Operands) -> Outcome
         32 => f32x4_replace_lane(a, lane, scalar),
         33 => Outcome::of_f64(a.f64x2_extract_lane(lane)),
         34 => f64x2_replace_lane(a, lane, scalar),
-        _ => from_35(op, o),
+        _ => Outcome::Refused(OPERATION),
     }
 }
 
-// Numbers from 35 on: comparisons of i8x16 and i16x8.
+// comparisons of i8x16 and i16x8.
 fn from_35(op: u16, o: Operands) -> Outcome
-    ensures { λ r. ⌜ outcome-of r ≡ cond (member op from-35) (outcome (instruction op) (operands-of o)) (refused 2) ⌝ }
+    ensures { λ r. ⌜ (35 ≤ op → op < 55 → outcome-of r ≡ outcome (instruction op) (operands-of o)) ⌝ }
 {
     let a = o.a;
     let b = o.b;
@@ -82,13 +91,13 @@ fn from_35(op: u16, o: Operands) -> Outcome
         52 => Outcome::Vector(a.i16x8_le_u(b)),
         53 => Outcome::Vector(a.i16x8_ge_s(b)),
         54 => Outcome::Vector(a.i16x8_ge_u(b)),
-        _ => from_55(op, o),
+        _ => Outcome::Refused(OPERATION),
     }
 }
 
-// Numbers from 55 on: comparisons of i32x4 and of floats.
+// comparisons of i32x4 and of floats.
 fn from_55(op: u16, o: Operands) -> Outcome
-    ensures { λ r. ⌜ outcome-of r ≡ cond (member op from-55) (outcome (instruction op) (operands-of o)) (refused 2) ⌝ }
+    ensures { λ r. ⌜ (55 ≤ op → op < 77 → outcome-of r ≡ outcome (instruction op) (operands-of o)) ⌝ }
 {
     let a = o.a;
     let b = o.b;
@@ -115,13 +124,13 @@ fn from_55(op: u16, o: Operands) -> Outcome
         74 => Outcome::Vector(a.f64x2_gt(b)),
         75 => Outcome::Vector(a.f64x2_le(b)),
         76 => Outcome::Vector(a.f64x2_ge(b)),
-        _ => from_77(op, o),
+        _ => Outcome::Refused(OPERATION),
     }
 }
 
-// Numbers from 77 on: v128: bitwise operations.
+// v128: bitwise operations.
 fn from_77(op: u16, o: Operands) -> Outcome
-    ensures { λ r. ⌜ outcome-of r ≡ cond (member op from-77) (outcome (instruction op) (operands-of o)) (refused 2) ⌝ }
+    ensures { λ r. ⌜ (77 ≤ op → op < 96 → outcome-of r ≡ outcome (instruction op) (operands-of o)) ⌝ }
 {
     let a = o.a;
     let b = o.b;
@@ -134,13 +143,13 @@ fn from_77(op: u16, o: Operands) -> Outcome
         81 => Outcome::Vector(a.v128_xor(b)),
         82 => Outcome::Vector(a.v128_bitselect(b, c)),
         83 => Outcome::of_bool(a.v128_any_true()),
-        _ => from_96(op, o),
+        _ => Outcome::Refused(OPERATION),
     }
 }
 
-// Numbers from 96 on: i8x16.
+// i8x16.
 fn from_96(op: u16, o: Operands) -> Outcome
-    ensures { λ r. ⌜ outcome-of r ≡ cond (member op from-96) (outcome (instruction op) (operands-of o)) (refused 2) ⌝ }
+    ensures { λ r. ⌜ (96 ≤ op → op < 124 → outcome-of r ≡ outcome (instruction op) (operands-of o)) ⌝ }
 {
     let a = o.a;
     let b = o.b;
@@ -167,13 +176,13 @@ fn from_96(op: u16, o: Operands) -> Outcome
         120 => Outcome::Vector(a.i8x16_max_s(b)),
         121 => Outcome::Vector(a.i8x16_max_u(b)),
         123 => Outcome::Vector(a.i8x16_avgr_u(b)),
-        _ => from_124(op, o),
+        _ => Outcome::Refused(OPERATION),
     }
 }
 
-// Numbers from 124 on: i16x8, to its shifts.
+// i16x8, to its shifts.
 fn from_124(op: u16, o: Operands) -> Outcome
-    ensures { λ r. ⌜ outcome-of r ≡ cond (member op from-124) (outcome (instruction op) (operands-of o)) (refused 2) ⌝ }
+    ensures { λ r. ⌜ (124 ≤ op → op < 142 → outcome-of r ≡ outcome (instruction op) (operands-of o)) ⌝ }
 {
     let a = o.a;
     let b = o.b;
@@ -197,13 +206,13 @@ fn from_124(op: u16, o: Operands) -> Outcome
         139 => Outcome::Vector(a.i16x8_shl(count)),
         140 => Outcome::Vector(a.i16x8_shr_s(count)),
         141 => Outcome::Vector(a.i16x8_shr_u(count)),
-        _ => from_142(op, o),
+        _ => Outcome::Refused(OPERATION),
     }
 }
 
-// Numbers from 142 on: i16x8, from its sums on.
+// i16x8, from its sums on.
 fn from_142(op: u16, o: Operands) -> Outcome
-    ensures { λ r. ⌜ outcome-of r ≡ cond (member op from-142) (outcome (instruction op) (operands-of o)) (refused 2) ⌝ }
+    ensures { λ r. ⌜ (142 ≤ op → op < 160 → outcome-of r ≡ outcome (instruction op) (operands-of o)) ⌝ }
 {
     let a = o.a;
     let b = o.b;
@@ -224,13 +233,13 @@ fn from_142(op: u16, o: Operands) -> Outcome
         157 => Outcome::Vector(a.i16x8_extmul_high_i8x16_s(b)),
         158 => Outcome::Vector(a.i16x8_extmul_low_i8x16_u(b)),
         159 => Outcome::Vector(a.i16x8_extmul_high_i8x16_u(b)),
-        _ => from_160(op, o),
+        _ => Outcome::Refused(OPERATION),
     }
 }
 
-// Numbers from 160 on: i32x4.
+// i32x4.
 fn from_160(op: u16, o: Operands) -> Outcome
-    ensures { λ r. ⌜ outcome-of r ≡ cond (member op from-160) (outcome (instruction op) (operands-of o)) (refused 2) ⌝ }
+    ensures { λ r. ⌜ (160 ≤ op → op < 192 → outcome-of r ≡ outcome (instruction op) (operands-of o)) ⌝ }
 {
     let a = o.a;
     let b = o.b;
@@ -259,13 +268,13 @@ fn from_160(op: u16, o: Operands) -> Outcome
         189 => Outcome::Vector(a.i32x4_extmul_high_i16x8_s(b)),
         190 => Outcome::Vector(a.i32x4_extmul_low_i16x8_u(b)),
         191 => Outcome::Vector(a.i32x4_extmul_high_i16x8_u(b)),
-        _ => from_192(op, o),
+        _ => Outcome::Refused(OPERATION),
     }
 }
 
-// Numbers from 192 on: i64x2.
+// i64x2.
 fn from_192(op: u16, o: Operands) -> Outcome
-    ensures { λ r. ⌜ outcome-of r ≡ cond (member op from-192) (outcome (instruction op) (operands-of o)) (refused 2) ⌝ }
+    ensures { λ r. ⌜ (192 ≤ op → op < 224 → outcome-of r ≡ outcome (instruction op) (operands-of o)) ⌝ }
 {
     let a = o.a;
     let b = o.b;
@@ -295,13 +304,13 @@ fn from_192(op: u16, o: Operands) -> Outcome
         221 => Outcome::Vector(a.i64x2_extmul_high_i32x4_s(b)),
         222 => Outcome::Vector(a.i64x2_extmul_low_i32x4_u(b)),
         223 => Outcome::Vector(a.i64x2_extmul_high_i32x4_u(b)),
-        _ => from_224(op, o),
+        _ => Outcome::Refused(OPERATION),
     }
 }
 
-// Numbers from 224 on: floats.
+// floats.
 fn from_224(op: u16, o: Operands) -> Outcome
-    ensures { λ r. ⌜ outcome-of r ≡ cond (member op from-224) (outcome (instruction op) (operands-of o)) (refused 2) ⌝ }
+    ensures { λ r. ⌜ (224 ≤ op → outcome-of r ≡ outcome (instruction op) (operands-of o)) ⌝ }
 {
     let a = o.a;
     let b = o.b;

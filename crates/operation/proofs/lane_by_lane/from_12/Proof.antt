@@ -1,9 +1,9 @@
 -- `operation::lane_by_lane::from_12` meets its contract: each arm by its method's promise, at the number that led there. Assumes nothing.
 use mathlib.Core.Path.{_∙_, ap}
+use Prim.Native.Nat.{zero-le}
 use Rattle.standard.specs.Instruction.{i32, i64, f32, f64, table, instruction}
 use Rattle.operation.specs.Outcome.{vector, scalar, mapped}
-use Rattle.operation.specs.Numbers.{from-12, from-12-own, from-35}
-use Rattle.operation.proofs.Arms.{as-vector, arm, passed-on}
+use Rattle.operation.proofs.Arms.{as-vector, total-arm, none-12}
 use borrow.Author.Needs.{needs}
 use Rattle.operation.proofs.lane_by_lane.from_12.Statement.{statement}
 use Rattle.operation.proofs.lane_by_lane.from_12.Tie as tie
@@ -104,103 +104,100 @@ of-f64-requires c κs = search needs
 f64x2-replace-lane-requires : tie.Need-f64x2-replace-lane-requires
 f64x2-replace-lane-requires c κs = search needs
 
-from-35-requires : tie.Need-from-35-requires
-from-35-requires c κs = search needs
-
 returns : tie.Need-returns
 unfolding instruction table
-returns c = arm from-12 12 _ _ (c .before .match .keys1) (as-vector (c .join8 .ensures))
+returns c u = total-arm 12 _ _ (c .before .match .keys1) (as-vector (c .join8 .ensures))
 
 returns-2 : tie.Need-returns-2
 unfolding instruction table
-returns-2 c = arm from-12 13 _ _ (c .before .before .match .keys2) (c .of-vector .ensures ∙ ap (mapped vector) (c .before .i8x16-shuffle .ensures))
+returns-2 c u = total-arm 13 _ _ (c .before .before .match .keys2) (c .of-vector .ensures ∙ ap (mapped vector) (c .before .i8x16-shuffle .ensures))
 
 returns-3 : tie.Need-returns-3
 unfolding instruction table
-returns-3 c = arm from-12 14 _ _ (c .before .match .keys3) (as-vector (c .i8x16-swizzle .ensures))
+returns-3 c u = total-arm 14 _ _ (c .before .match .keys3) (as-vector (c .i8x16-swizzle .ensures))
 
 returns-4 : tie.Need-returns-4
 unfolding instruction table
-returns-4 c = arm from-12 15 _ _ (c .before .match .keys4) (c .i8x16-splat .ensures)
+returns-4 c u = total-arm 15 _ _ (c .before .match .keys4) (c .i8x16-splat .ensures)
 
 returns-5 : tie.Need-returns-5
 unfolding instruction table
-returns-5 c = arm from-12 16 _ _ (c .before .match .keys5) (c .i16x8-splat .ensures)
+returns-5 c u = total-arm 16 _ _ (c .before .match .keys5) (c .i16x8-splat .ensures)
 
 returns-6 : tie.Need-returns-6
 unfolding instruction table
-returns-6 c = arm from-12 17 _ _ (c .before .match .keys6) (c .i32x4-splat .ensures)
+returns-6 c u = total-arm 17 _ _ (c .before .match .keys6) (c .i32x4-splat .ensures)
 
 returns-7 : tie.Need-returns-7
 unfolding instruction table
-returns-7 c = arm from-12 18 _ _ (c .before .match .keys7) (c .i64x2-splat .ensures)
+returns-7 c u = total-arm 18 _ _ (c .before .match .keys7) (c .i64x2-splat .ensures)
 
 returns-8 : tie.Need-returns-8
 unfolding instruction table
-returns-8 c = arm from-12 19 _ _ (c .before .match .keys8) (c .f32x4-splat .ensures)
+returns-8 c u = total-arm 19 _ _ (c .before .match .keys8) (c .f32x4-splat .ensures)
 
 returns-9 : tie.Need-returns-9
 unfolding instruction table
-returns-9 c = arm from-12 20 _ _ (c .before .match .keys9) (c .f64x2-splat .ensures)
+returns-9 c u = total-arm 20 _ _ (c .before .match .keys9) (c .f64x2-splat .ensures)
 
 returns-10 : tie.Need-returns-10
 unfolding instruction table
-returns-10 c = arm from-12 21 _ _ (c .before .before .match .keys10) (c .of-i32 .ensures ∙ ap (mapped (scalar i32)) (c .before .i8x16-extract-lane-s .ensures))
+returns-10 c u = total-arm 21 _ _ (c .before .before .match .keys10) (c .of-i32 .ensures ∙ ap (mapped (scalar i32)) (c .before .i8x16-extract-lane-s .ensures))
 
 returns-11 : tie.Need-returns-11
 unfolding instruction table
-returns-11 c = arm from-12 22 _ _ (c .before .before .match .keys11) (c .of-u32 .ensures ∙ ap (mapped (scalar i32)) (c .before .i8x16-extract-lane-u .ensures))
+returns-11 c u = total-arm 22 _ _ (c .before .before .match .keys11) (c .of-u32 .ensures ∙ ap (mapped (scalar i32)) (c .before .i8x16-extract-lane-u .ensures))
 
 returns-12 : tie.Need-returns-12
 unfolding instruction table
-returns-12 c = arm from-12 23 _ _ (c .before .match .keys12) (c .i8x16-replace-lane .ensures)
+returns-12 c u = total-arm 23 _ _ (c .before .match .keys12) (c .i8x16-replace-lane .ensures)
 
 returns-13 : tie.Need-returns-13
 unfolding instruction table
-returns-13 c = arm from-12 24 _ _ (c .before .before .match .keys13) (c .of-i322 .ensures ∙ ap (mapped (scalar i32)) (c .before .i16x8-extract-lane-s .ensures))
+returns-13 c u = total-arm 24 _ _ (c .before .before .match .keys13) (c .of-i322 .ensures ∙ ap (mapped (scalar i32)) (c .before .i16x8-extract-lane-s .ensures))
 
 returns-14 : tie.Need-returns-14
 unfolding instruction table
-returns-14 c = arm from-12 25 _ _ (c .before .before .match .keys14) (c .of-u322 .ensures ∙ ap (mapped (scalar i32)) (c .before .i16x8-extract-lane-u .ensures))
+returns-14 c u = total-arm 25 _ _ (c .before .before .match .keys14) (c .of-u322 .ensures ∙ ap (mapped (scalar i32)) (c .before .i16x8-extract-lane-u .ensures))
 
 returns-15 : tie.Need-returns-15
 unfolding instruction table
-returns-15 c = arm from-12 26 _ _ (c .before .match .keys15) (c .i16x8-replace-lane .ensures)
+returns-15 c u = total-arm 26 _ _ (c .before .match .keys15) (c .i16x8-replace-lane .ensures)
 
 returns-16 : tie.Need-returns-16
 unfolding instruction table
-returns-16 c = arm from-12 27 _ _ (c .before .before .match .keys16) (c .of-i323 .ensures ∙ ap (mapped (scalar i32)) (c .before .i32x4-extract-lane .ensures))
+returns-16 c u = total-arm 27 _ _ (c .before .before .match .keys16) (c .of-i323 .ensures ∙ ap (mapped (scalar i32)) (c .before .i32x4-extract-lane .ensures))
 
 returns-17 : tie.Need-returns-17
 unfolding instruction table
-returns-17 c = arm from-12 28 _ _ (c .before .match .keys17) (c .i32x4-replace-lane .ensures)
+returns-17 c u = total-arm 28 _ _ (c .before .match .keys17) (c .i32x4-replace-lane .ensures)
 
 returns-18 : tie.Need-returns-18
 unfolding instruction table
-returns-18 c = arm from-12 29 _ _ (c .before .before .match .keys18) (c .of-i64 .ensures ∙ ap (mapped (scalar i64)) (c .before .i64x2-extract-lane .ensures))
+returns-18 c u = total-arm 29 _ _ (c .before .before .match .keys18) (c .of-i64 .ensures ∙ ap (mapped (scalar i64)) (c .before .i64x2-extract-lane .ensures))
 
 returns-19 : tie.Need-returns-19
 unfolding instruction table
-returns-19 c = arm from-12 30 _ _ (c .before .match .keys19) (c .i64x2-replace-lane .ensures)
+returns-19 c u = total-arm 30 _ _ (c .before .match .keys19) (c .i64x2-replace-lane .ensures)
 
 returns-20 : tie.Need-returns-20
 unfolding instruction table
-returns-20 c = arm from-12 31 _ _ (c .before .before .match .keys20) (c .of-f32 .ensures ∙ ap (mapped (scalar f32)) (c .before .f32x4-extract-lane .ensures))
+returns-20 c u = total-arm 31 _ _ (c .before .before .match .keys20) (c .of-f32 .ensures ∙ ap (mapped (scalar f32)) (c .before .f32x4-extract-lane .ensures))
 
 returns-21 : tie.Need-returns-21
 unfolding instruction table
-returns-21 c = arm from-12 32 _ _ (c .before .match .keys21) (c .f32x4-replace-lane .ensures)
+returns-21 c u = total-arm 32 _ _ (c .before .match .keys21) (c .f32x4-replace-lane .ensures)
 
 returns-22 : tie.Need-returns-22
 unfolding instruction table
-returns-22 c = arm from-12 33 _ _ (c .before .before .match .keys22) (c .of-f64 .ensures ∙ ap (mapped (scalar f64)) (c .before .f64x2-extract-lane .ensures))
+returns-22 c u = total-arm 33 _ _ (c .before .before .match .keys22) (c .of-f64 .ensures ∙ ap (mapped (scalar f64)) (c .before .f64x2-extract-lane .ensures))
 
 returns-23 : tie.Need-returns-23
 unfolding instruction table
-returns-23 c = arm from-12 34 _ _ (c .before .match .keys23) (c .f64x2-replace-lane .ensures)
+returns-23 c u = total-arm 34 _ _ (c .before .match .keys23) (c .f64x2-replace-lane .ensures)
 
 returns-24 : tie.Need-returns-24
-returns-24 c = passed-on _ from-12-own from-35 _ _ (c .before .match .rest) (c .from-35 .ensures)
+returns-24 c u = none-12 _ _ zero-le u (c .match .rest)
 
 pub from-12-spec : {M : Type 1} → statement M
 from-12-spec =
@@ -238,7 +235,6 @@ from-12-spec =
     f64x2-extract-lane-requires
     of-f64-requires
     f64x2-replace-lane-requires
-    from-35-requires
     returns
     returns-2
     returns-3

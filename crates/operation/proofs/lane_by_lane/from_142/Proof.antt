@@ -1,7 +1,6 @@
 -- `operation::lane_by_lane::from_142` meets its contract: each arm by its method's promise, at the number that led there. Assumes nothing.
 use Rattle.standard.specs.Instruction.{table, instruction}
-use Rattle.operation.specs.Numbers.{from-142, from-142-own, from-160}
-use Rattle.operation.proofs.Arms.{as-vector, arm, passed-on}
+use Rattle.operation.proofs.Arms.{as-vector, total-arm, none-142}
 use borrow.Author.Needs.{needs}
 use Rattle.operation.proofs.lane_by_lane.from_142.Statement.{statement}
 use Rattle.operation.proofs.lane_by_lane.from_142.Tie as tie
@@ -54,75 +53,72 @@ i16x8-extmul-low-i8x16-u-requires c κs = search needs
 i16x8-extmul-high-i8x16-u-requires : tie.Need-i16x8-extmul-high-i8x16-u-requires
 i16x8-extmul-high-i8x16-u-requires c κs = search needs
 
-from-160-requires : tie.Need-from-160-requires
-from-160-requires c κs = search needs
-
 returns : tie.Need-returns
 unfolding instruction table
-returns c = arm from-142 142 _ _ (c .before .match .keys1) (as-vector (c .i16x8-add .ensures))
+returns c l u = total-arm 142 _ _ (c .before .match .keys1) (as-vector (c .i16x8-add .ensures))
 
 returns-2 : tie.Need-returns-2
 unfolding instruction table
-returns-2 c = arm from-142 143 _ _ (c .before .match .keys2) (as-vector (c .i16x8-add-sat-s .ensures))
+returns-2 c l u = total-arm 143 _ _ (c .before .match .keys2) (as-vector (c .i16x8-add-sat-s .ensures))
 
 returns-3 : tie.Need-returns-3
 unfolding instruction table
-returns-3 c = arm from-142 144 _ _ (c .before .match .keys3) (as-vector (c .i16x8-add-sat-u .ensures))
+returns-3 c l u = total-arm 144 _ _ (c .before .match .keys3) (as-vector (c .i16x8-add-sat-u .ensures))
 
 returns-4 : tie.Need-returns-4
 unfolding instruction table
-returns-4 c = arm from-142 145 _ _ (c .before .match .keys4) (as-vector (c .i16x8-sub .ensures))
+returns-4 c l u = total-arm 145 _ _ (c .before .match .keys4) (as-vector (c .i16x8-sub .ensures))
 
 returns-5 : tie.Need-returns-5
 unfolding instruction table
-returns-5 c = arm from-142 146 _ _ (c .before .match .keys5) (as-vector (c .i16x8-sub-sat-s .ensures))
+returns-5 c l u = total-arm 146 _ _ (c .before .match .keys5) (as-vector (c .i16x8-sub-sat-s .ensures))
 
 returns-6 : tie.Need-returns-6
 unfolding instruction table
-returns-6 c = arm from-142 147 _ _ (c .before .match .keys6) (as-vector (c .i16x8-sub-sat-u .ensures))
+returns-6 c l u = total-arm 147 _ _ (c .before .match .keys6) (as-vector (c .i16x8-sub-sat-u .ensures))
 
 returns-7 : tie.Need-returns-7
 unfolding instruction table
-returns-7 c = arm from-142 149 _ _ (c .before .match .keys7) (as-vector (c .i16x8-mul .ensures))
+returns-7 c l u = total-arm 149 _ _ (c .before .match .keys7) (as-vector (c .i16x8-mul .ensures))
 
 returns-8 : tie.Need-returns-8
 unfolding instruction table
-returns-8 c = arm from-142 150 _ _ (c .before .match .keys8) (as-vector (c .i16x8-min-s .ensures))
+returns-8 c l u = total-arm 150 _ _ (c .before .match .keys8) (as-vector (c .i16x8-min-s .ensures))
 
 returns-9 : tie.Need-returns-9
 unfolding instruction table
-returns-9 c = arm from-142 151 _ _ (c .before .match .keys9) (as-vector (c .i16x8-min-u .ensures))
+returns-9 c l u = total-arm 151 _ _ (c .before .match .keys9) (as-vector (c .i16x8-min-u .ensures))
 
 returns-10 : tie.Need-returns-10
 unfolding instruction table
-returns-10 c = arm from-142 152 _ _ (c .before .match .keys10) (as-vector (c .i16x8-max-s .ensures))
+returns-10 c l u = total-arm 152 _ _ (c .before .match .keys10) (as-vector (c .i16x8-max-s .ensures))
 
 returns-11 : tie.Need-returns-11
 unfolding instruction table
-returns-11 c = arm from-142 153 _ _ (c .before .match .keys11) (as-vector (c .i16x8-max-u .ensures))
+returns-11 c l u = total-arm 153 _ _ (c .before .match .keys11) (as-vector (c .i16x8-max-u .ensures))
 
 returns-12 : tie.Need-returns-12
 unfolding instruction table
-returns-12 c = arm from-142 155 _ _ (c .before .match .keys12) (as-vector (c .i16x8-avgr-u .ensures))
+returns-12 c l u = total-arm 155 _ _ (c .before .match .keys12) (as-vector (c .i16x8-avgr-u .ensures))
 
 returns-13 : tie.Need-returns-13
 unfolding instruction table
-returns-13 c = arm from-142 156 _ _ (c .before .match .keys13) (as-vector (c .i16x8-extmul-low-i8x16-s .ensures))
+returns-13 c l u = total-arm 156 _ _ (c .before .match .keys13) (as-vector (c .i16x8-extmul-low-i8x16-s .ensures))
 
 returns-14 : tie.Need-returns-14
 unfolding instruction table
-returns-14 c = arm from-142 157 _ _ (c .before .match .keys14) (as-vector (c .i16x8-extmul-high-i8x16-s .ensures))
+returns-14 c l u = total-arm 157 _ _ (c .before .match .keys14) (as-vector (c .i16x8-extmul-high-i8x16-s .ensures))
 
 returns-15 : tie.Need-returns-15
 unfolding instruction table
-returns-15 c = arm from-142 158 _ _ (c .before .match .keys15) (as-vector (c .i16x8-extmul-low-i8x16-u .ensures))
+returns-15 c l u = total-arm 158 _ _ (c .before .match .keys15) (as-vector (c .i16x8-extmul-low-i8x16-u .ensures))
 
 returns-16 : tie.Need-returns-16
 unfolding instruction table
-returns-16 c = arm from-142 159 _ _ (c .before .match .keys16) (as-vector (c .i16x8-extmul-high-i8x16-u .ensures))
+returns-16 c l u = total-arm 159 _ _ (c .before .match .keys16) (as-vector (c .i16x8-extmul-high-i8x16-u .ensures))
 
 returns-17 : tie.Need-returns-17
-returns-17 c = passed-on _ from-142-own from-160 _ _ (c .before .match .rest) (c .from-160 .ensures)
+returns-17 c l u = none-142 _ _ l u (c .match .rest)
 
 pub from-142-spec : {M : Type 1} → statement M
 from-142-spec =
@@ -144,7 +140,6 @@ from-142-spec =
     i16x8-extmul-high-i8x16-s-requires
     i16x8-extmul-low-i8x16-u-requires
     i16x8-extmul-high-i8x16-u-requires
-    from-160-requires
     returns
     returns-2
     returns-3

@@ -4,8 +4,7 @@ use Prim.Native.Nat.{ℕ}
 use Rattle.standard.specs.Instruction.{i32, table, instruction}
 use Rattle.standard.specs.Refusal.{given}
 use Rattle.operation.specs.Outcome.{scalar}
-use Rattle.operation.specs.Numbers.{from-160, from-160-own, from-192}
-use Rattle.operation.proofs.Arms.{as-vector, arm, passed-on}
+use Rattle.operation.proofs.Arms.{as-vector, total-arm, none-160}
 use borrow.Author.Needs.{needs}
 use Rattle.operation.proofs.lane_by_lane.from_160.Statement.{statement}
 use Rattle.operation.proofs.lane_by_lane.from_160.Tie as tie
@@ -85,103 +84,100 @@ i32x4-extmul-low-i16x8-u-requires c κs = search needs
 i32x4-extmul-high-i16x8-u-requires : tie.Need-i32x4-extmul-high-i16x8-u-requires
 i32x4-extmul-high-i16x8-u-requires c κs = search needs
 
-from-192-requires : tie.Need-from-192-requires
-from-192-requires c κs = search needs
-
 returns : tie.Need-returns
 unfolding instruction table
-returns c = arm from-160 160 _ _ (c .before .match .keys1) (as-vector (c .i32x4-abs .ensures))
+returns c l u = total-arm 160 _ _ (c .before .match .keys1) (as-vector (c .i32x4-abs .ensures))
 
 returns-2 : tie.Need-returns-2
 unfolding instruction table
-returns-2 c = arm from-160 161 _ _ (c .before .match .keys2) (as-vector (c .i32x4-neg .ensures))
+returns-2 c l u = total-arm 161 _ _ (c .before .match .keys2) (as-vector (c .i32x4-neg .ensures))
 
 returns-3 : tie.Need-returns-3
 unfolding instruction table
-returns-3 c = arm from-160 163 _ _ (c .before .before .match .keys3) (c .of-bool .ensures ∙ ap (λ (n : ℕ). given (scalar i32 n)) (c .before .i32x4-all-true .ensures))
+returns-3 c l u = total-arm 163 _ _ (c .before .before .match .keys3) (c .of-bool .ensures ∙ ap (λ (n : ℕ). given (scalar i32 n)) (c .before .i32x4-all-true .ensures))
 
 returns-4 : tie.Need-returns-4
 unfolding instruction table
-returns-4 c = arm from-160 164 _ _ (c .before .before .match .keys4) (c .of-bits .ensures ∙ ap (λ (n : ℕ). given (scalar i32 n)) (c .before .i32x4-bitmask .ensures))
+returns-4 c l u = total-arm 164 _ _ (c .before .before .match .keys4) (c .of-bits .ensures ∙ ap (λ (n : ℕ). given (scalar i32 n)) (c .before .i32x4-bitmask .ensures))
 
 returns-5 : tie.Need-returns-5
 unfolding instruction table
-returns-5 c = arm from-160 167 _ _ (c .before .match .keys5) (as-vector (c .i32x4-extend-low-i16x8-s .ensures))
+returns-5 c l u = total-arm 167 _ _ (c .before .match .keys5) (as-vector (c .i32x4-extend-low-i16x8-s .ensures))
 
 returns-6 : tie.Need-returns-6
 unfolding instruction table
-returns-6 c = arm from-160 168 _ _ (c .before .match .keys6) (as-vector (c .i32x4-extend-high-i16x8-s .ensures))
+returns-6 c l u = total-arm 168 _ _ (c .before .match .keys6) (as-vector (c .i32x4-extend-high-i16x8-s .ensures))
 
 returns-7 : tie.Need-returns-7
 unfolding instruction table
-returns-7 c = arm from-160 169 _ _ (c .before .match .keys7) (as-vector (c .i32x4-extend-low-i16x8-u .ensures))
+returns-7 c l u = total-arm 169 _ _ (c .before .match .keys7) (as-vector (c .i32x4-extend-low-i16x8-u .ensures))
 
 returns-8 : tie.Need-returns-8
 unfolding instruction table
-returns-8 c = arm from-160 170 _ _ (c .before .match .keys8) (as-vector (c .i32x4-extend-high-i16x8-u .ensures))
+returns-8 c l u = total-arm 170 _ _ (c .before .match .keys8) (as-vector (c .i32x4-extend-high-i16x8-u .ensures))
 
 returns-9 : tie.Need-returns-9
 unfolding instruction table
-returns-9 c = arm from-160 171 _ _ (c .before .match .keys9) (as-vector (c .i32x4-shl .ensures))
+returns-9 c l u = total-arm 171 _ _ (c .before .match .keys9) (as-vector (c .i32x4-shl .ensures))
 
 returns-10 : tie.Need-returns-10
 unfolding instruction table
-returns-10 c = arm from-160 172 _ _ (c .before .match .keys10) (as-vector (c .i32x4-shr-s .ensures))
+returns-10 c l u = total-arm 172 _ _ (c .before .match .keys10) (as-vector (c .i32x4-shr-s .ensures))
 
 returns-11 : tie.Need-returns-11
 unfolding instruction table
-returns-11 c = arm from-160 173 _ _ (c .before .match .keys11) (as-vector (c .i32x4-shr-u .ensures))
+returns-11 c l u = total-arm 173 _ _ (c .before .match .keys11) (as-vector (c .i32x4-shr-u .ensures))
 
 returns-12 : tie.Need-returns-12
 unfolding instruction table
-returns-12 c = arm from-160 174 _ _ (c .before .match .keys12) (as-vector (c .i32x4-add .ensures))
+returns-12 c l u = total-arm 174 _ _ (c .before .match .keys12) (as-vector (c .i32x4-add .ensures))
 
 returns-13 : tie.Need-returns-13
 unfolding instruction table
-returns-13 c = arm from-160 177 _ _ (c .before .match .keys13) (as-vector (c .i32x4-sub .ensures))
+returns-13 c l u = total-arm 177 _ _ (c .before .match .keys13) (as-vector (c .i32x4-sub .ensures))
 
 returns-14 : tie.Need-returns-14
 unfolding instruction table
-returns-14 c = arm from-160 181 _ _ (c .before .match .keys14) (as-vector (c .i32x4-mul .ensures))
+returns-14 c l u = total-arm 181 _ _ (c .before .match .keys14) (as-vector (c .i32x4-mul .ensures))
 
 returns-15 : tie.Need-returns-15
 unfolding instruction table
-returns-15 c = arm from-160 182 _ _ (c .before .match .keys15) (as-vector (c .i32x4-min-s .ensures))
+returns-15 c l u = total-arm 182 _ _ (c .before .match .keys15) (as-vector (c .i32x4-min-s .ensures))
 
 returns-16 : tie.Need-returns-16
 unfolding instruction table
-returns-16 c = arm from-160 183 _ _ (c .before .match .keys16) (as-vector (c .i32x4-min-u .ensures))
+returns-16 c l u = total-arm 183 _ _ (c .before .match .keys16) (as-vector (c .i32x4-min-u .ensures))
 
 returns-17 : tie.Need-returns-17
 unfolding instruction table
-returns-17 c = arm from-160 184 _ _ (c .before .match .keys17) (as-vector (c .i32x4-max-s .ensures))
+returns-17 c l u = total-arm 184 _ _ (c .before .match .keys17) (as-vector (c .i32x4-max-s .ensures))
 
 returns-18 : tie.Need-returns-18
 unfolding instruction table
-returns-18 c = arm from-160 185 _ _ (c .before .match .keys18) (as-vector (c .i32x4-max-u .ensures))
+returns-18 c l u = total-arm 185 _ _ (c .before .match .keys18) (as-vector (c .i32x4-max-u .ensures))
 
 returns-19 : tie.Need-returns-19
 unfolding instruction table
-returns-19 c = arm from-160 186 _ _ (c .before .match .keys19) (as-vector (c .i32x4-dot-i16x8-s .ensures))
+returns-19 c l u = total-arm 186 _ _ (c .before .match .keys19) (as-vector (c .i32x4-dot-i16x8-s .ensures))
 
 returns-20 : tie.Need-returns-20
 unfolding instruction table
-returns-20 c = arm from-160 188 _ _ (c .before .match .keys20) (as-vector (c .i32x4-extmul-low-i16x8-s .ensures))
+returns-20 c l u = total-arm 188 _ _ (c .before .match .keys20) (as-vector (c .i32x4-extmul-low-i16x8-s .ensures))
 
 returns-21 : tie.Need-returns-21
 unfolding instruction table
-returns-21 c = arm from-160 189 _ _ (c .before .match .keys21) (as-vector (c .i32x4-extmul-high-i16x8-s .ensures))
+returns-21 c l u = total-arm 189 _ _ (c .before .match .keys21) (as-vector (c .i32x4-extmul-high-i16x8-s .ensures))
 
 returns-22 : tie.Need-returns-22
 unfolding instruction table
-returns-22 c = arm from-160 190 _ _ (c .before .match .keys22) (as-vector (c .i32x4-extmul-low-i16x8-u .ensures))
+returns-22 c l u = total-arm 190 _ _ (c .before .match .keys22) (as-vector (c .i32x4-extmul-low-i16x8-u .ensures))
 
 returns-23 : tie.Need-returns-23
 unfolding instruction table
-returns-23 c = arm from-160 191 _ _ (c .before .match .keys23) (as-vector (c .i32x4-extmul-high-i16x8-u .ensures))
+returns-23 c l u = total-arm 191 _ _ (c .before .match .keys23) (as-vector (c .i32x4-extmul-high-i16x8-u .ensures))
 
 returns-24 : tie.Need-returns-24
-returns-24 c = passed-on _ from-160-own from-192 _ _ (c .before .match .rest) (c .from-192 .ensures)
+returns-24 c l u = none-160 _ _ l u (c .match .rest)
 
 pub from-160-spec : {M : Type 1} → statement M
 from-160-spec =
@@ -212,7 +208,6 @@ from-160-spec =
     i32x4-extmul-high-i16x8-s-requires
     i32x4-extmul-low-i16x8-u-requires
     i32x4-extmul-high-i16x8-u-requires
-    from-192-requires
     returns
     returns-2
     returns-3

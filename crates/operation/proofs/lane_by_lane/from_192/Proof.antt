@@ -4,8 +4,7 @@ use Prim.Native.Nat.{ℕ}
 use Rattle.standard.specs.Instruction.{i32, table, instruction}
 use Rattle.standard.specs.Refusal.{given}
 use Rattle.operation.specs.Outcome.{scalar}
-use Rattle.operation.specs.Numbers.{from-192, from-192-own, from-224}
-use Rattle.operation.proofs.Arms.{as-vector, arm, passed-on}
+use Rattle.operation.proofs.Arms.{as-vector, total-arm, none-192}
 use borrow.Author.Needs.{needs}
 use Rattle.operation.proofs.lane_by_lane.from_192.Statement.{statement}
 use Rattle.operation.proofs.lane_by_lane.from_192.Tie as tie
@@ -88,107 +87,104 @@ i64x2-extmul-low-i32x4-u-requires c κs = search needs
 i64x2-extmul-high-i32x4-u-requires : tie.Need-i64x2-extmul-high-i32x4-u-requires
 i64x2-extmul-high-i32x4-u-requires c κs = search needs
 
-from-224-requires : tie.Need-from-224-requires
-from-224-requires c κs = search needs
-
 returns : tie.Need-returns
 unfolding instruction table
-returns c = arm from-192 192 _ _ (c .before .match .keys1) (as-vector (c .i64x2-abs .ensures))
+returns c l u = total-arm 192 _ _ (c .before .match .keys1) (as-vector (c .i64x2-abs .ensures))
 
 returns-2 : tie.Need-returns-2
 unfolding instruction table
-returns-2 c = arm from-192 193 _ _ (c .before .match .keys2) (as-vector (c .i64x2-neg .ensures))
+returns-2 c l u = total-arm 193 _ _ (c .before .match .keys2) (as-vector (c .i64x2-neg .ensures))
 
 returns-3 : tie.Need-returns-3
 unfolding instruction table
-returns-3 c = arm from-192 195 _ _ (c .before .before .match .keys3) (c .of-bool .ensures ∙ ap (λ (n : ℕ). given (scalar i32 n)) (c .before .i64x2-all-true .ensures))
+returns-3 c l u = total-arm 195 _ _ (c .before .before .match .keys3) (c .of-bool .ensures ∙ ap (λ (n : ℕ). given (scalar i32 n)) (c .before .i64x2-all-true .ensures))
 
 returns-4 : tie.Need-returns-4
 unfolding instruction table
-returns-4 c = arm from-192 196 _ _ (c .before .before .match .keys4) (c .of-bits .ensures ∙ ap (λ (n : ℕ). given (scalar i32 n)) (c .before .i64x2-bitmask .ensures))
+returns-4 c l u = total-arm 196 _ _ (c .before .before .match .keys4) (c .of-bits .ensures ∙ ap (λ (n : ℕ). given (scalar i32 n)) (c .before .i64x2-bitmask .ensures))
 
 returns-5 : tie.Need-returns-5
 unfolding instruction table
-returns-5 c = arm from-192 199 _ _ (c .before .match .keys5) (as-vector (c .i64x2-extend-low-i32x4-s .ensures))
+returns-5 c l u = total-arm 199 _ _ (c .before .match .keys5) (as-vector (c .i64x2-extend-low-i32x4-s .ensures))
 
 returns-6 : tie.Need-returns-6
 unfolding instruction table
-returns-6 c = arm from-192 200 _ _ (c .before .match .keys6) (as-vector (c .i64x2-extend-high-i32x4-s .ensures))
+returns-6 c l u = total-arm 200 _ _ (c .before .match .keys6) (as-vector (c .i64x2-extend-high-i32x4-s .ensures))
 
 returns-7 : tie.Need-returns-7
 unfolding instruction table
-returns-7 c = arm from-192 201 _ _ (c .before .match .keys7) (as-vector (c .i64x2-extend-low-i32x4-u .ensures))
+returns-7 c l u = total-arm 201 _ _ (c .before .match .keys7) (as-vector (c .i64x2-extend-low-i32x4-u .ensures))
 
 returns-8 : tie.Need-returns-8
 unfolding instruction table
-returns-8 c = arm from-192 202 _ _ (c .before .match .keys8) (as-vector (c .i64x2-extend-high-i32x4-u .ensures))
+returns-8 c l u = total-arm 202 _ _ (c .before .match .keys8) (as-vector (c .i64x2-extend-high-i32x4-u .ensures))
 
 returns-9 : tie.Need-returns-9
 unfolding instruction table
-returns-9 c = arm from-192 203 _ _ (c .before .match .keys9) (as-vector (c .i64x2-shl .ensures))
+returns-9 c l u = total-arm 203 _ _ (c .before .match .keys9) (as-vector (c .i64x2-shl .ensures))
 
 returns-10 : tie.Need-returns-10
 unfolding instruction table
-returns-10 c = arm from-192 204 _ _ (c .before .match .keys10) (as-vector (c .i64x2-shr-s .ensures))
+returns-10 c l u = total-arm 204 _ _ (c .before .match .keys10) (as-vector (c .i64x2-shr-s .ensures))
 
 returns-11 : tie.Need-returns-11
 unfolding instruction table
-returns-11 c = arm from-192 205 _ _ (c .before .match .keys11) (as-vector (c .i64x2-shr-u .ensures))
+returns-11 c l u = total-arm 205 _ _ (c .before .match .keys11) (as-vector (c .i64x2-shr-u .ensures))
 
 returns-12 : tie.Need-returns-12
 unfolding instruction table
-returns-12 c = arm from-192 206 _ _ (c .before .match .keys12) (as-vector (c .i64x2-add .ensures))
+returns-12 c l u = total-arm 206 _ _ (c .before .match .keys12) (as-vector (c .i64x2-add .ensures))
 
 returns-13 : tie.Need-returns-13
 unfolding instruction table
-returns-13 c = arm from-192 209 _ _ (c .before .match .keys13) (as-vector (c .i64x2-sub .ensures))
+returns-13 c l u = total-arm 209 _ _ (c .before .match .keys13) (as-vector (c .i64x2-sub .ensures))
 
 returns-14 : tie.Need-returns-14
 unfolding instruction table
-returns-14 c = arm from-192 213 _ _ (c .before .match .keys14) (as-vector (c .i64x2-mul .ensures))
+returns-14 c l u = total-arm 213 _ _ (c .before .match .keys14) (as-vector (c .i64x2-mul .ensures))
 
 returns-15 : tie.Need-returns-15
 unfolding instruction table
-returns-15 c = arm from-192 214 _ _ (c .before .match .keys15) (as-vector (c .i64x2-eq .ensures))
+returns-15 c l u = total-arm 214 _ _ (c .before .match .keys15) (as-vector (c .i64x2-eq .ensures))
 
 returns-16 : tie.Need-returns-16
 unfolding instruction table
-returns-16 c = arm from-192 215 _ _ (c .before .match .keys16) (as-vector (c .i64x2-ne .ensures))
+returns-16 c l u = total-arm 215 _ _ (c .before .match .keys16) (as-vector (c .i64x2-ne .ensures))
 
 returns-17 : tie.Need-returns-17
 unfolding instruction table
-returns-17 c = arm from-192 216 _ _ (c .before .match .keys17) (as-vector (c .i64x2-lt-s .ensures))
+returns-17 c l u = total-arm 216 _ _ (c .before .match .keys17) (as-vector (c .i64x2-lt-s .ensures))
 
 returns-18 : tie.Need-returns-18
 unfolding instruction table
-returns-18 c = arm from-192 217 _ _ (c .before .match .keys18) (as-vector (c .i64x2-gt-s .ensures))
+returns-18 c l u = total-arm 217 _ _ (c .before .match .keys18) (as-vector (c .i64x2-gt-s .ensures))
 
 returns-19 : tie.Need-returns-19
 unfolding instruction table
-returns-19 c = arm from-192 218 _ _ (c .before .match .keys19) (as-vector (c .i64x2-le-s .ensures))
+returns-19 c l u = total-arm 218 _ _ (c .before .match .keys19) (as-vector (c .i64x2-le-s .ensures))
 
 returns-20 : tie.Need-returns-20
 unfolding instruction table
-returns-20 c = arm from-192 219 _ _ (c .before .match .keys20) (as-vector (c .i64x2-ge-s .ensures))
+returns-20 c l u = total-arm 219 _ _ (c .before .match .keys20) (as-vector (c .i64x2-ge-s .ensures))
 
 returns-21 : tie.Need-returns-21
 unfolding instruction table
-returns-21 c = arm from-192 220 _ _ (c .before .match .keys21) (as-vector (c .i64x2-extmul-low-i32x4-s .ensures))
+returns-21 c l u = total-arm 220 _ _ (c .before .match .keys21) (as-vector (c .i64x2-extmul-low-i32x4-s .ensures))
 
 returns-22 : tie.Need-returns-22
 unfolding instruction table
-returns-22 c = arm from-192 221 _ _ (c .before .match .keys22) (as-vector (c .i64x2-extmul-high-i32x4-s .ensures))
+returns-22 c l u = total-arm 221 _ _ (c .before .match .keys22) (as-vector (c .i64x2-extmul-high-i32x4-s .ensures))
 
 returns-23 : tie.Need-returns-23
 unfolding instruction table
-returns-23 c = arm from-192 222 _ _ (c .before .match .keys23) (as-vector (c .i64x2-extmul-low-i32x4-u .ensures))
+returns-23 c l u = total-arm 222 _ _ (c .before .match .keys23) (as-vector (c .i64x2-extmul-low-i32x4-u .ensures))
 
 returns-24 : tie.Need-returns-24
 unfolding instruction table
-returns-24 c = arm from-192 223 _ _ (c .before .match .keys24) (as-vector (c .i64x2-extmul-high-i32x4-u .ensures))
+returns-24 c l u = total-arm 223 _ _ (c .before .match .keys24) (as-vector (c .i64x2-extmul-high-i32x4-u .ensures))
 
 returns-25 : tie.Need-returns-25
-returns-25 c = passed-on _ from-192-own from-224 _ _ (c .before .match .rest) (c .from-224 .ensures)
+returns-25 c l u = none-192 _ _ l u (c .match .rest)
 
 pub from-192-spec : {M : Type 1} → statement M
 from-192-spec =
@@ -220,7 +216,6 @@ from-192-spec =
     i64x2-extmul-high-i32x4-s-requires
     i64x2-extmul-low-i32x4-u-requires
     i64x2-extmul-high-i32x4-u-requires
-    from-224-requires
     returns
     returns-2
     returns-3

@@ -1,7 +1,6 @@
 -- `operation::lane_by_lane::from_224` meets its contract: each arm by its method's promise, at the number that led there. Assumes nothing.
 use Rattle.standard.specs.Instruction.{table, instruction}
-use Rattle.operation.specs.Numbers.{from-224}
-use Rattle.operation.proofs.Arms.{as-vector, arm, past}
+use Rattle.operation.proofs.Arms.{as-vector, total-arm, none-224}
 use borrow.Author.Needs.{needs}
 use Rattle.operation.proofs.lane_by_lane.from_224.Statement.{statement}
 use Rattle.operation.proofs.lane_by_lane.from_224.Tie as tie
@@ -32,38 +31,38 @@ f64x2-pmax-requires c κs = search needs
 
 returns : tie.Need-returns
 unfolding instruction table
-returns c = arm from-224 224 _ _ (c .before .match .keys1) (as-vector (c .f32x4-abs .ensures))
+returns c l = total-arm 224 _ _ (c .before .match .keys1) (as-vector (c .f32x4-abs .ensures))
 
 returns-2 : tie.Need-returns-2
 unfolding instruction table
-returns-2 c = arm from-224 225 _ _ (c .before .match .keys2) (as-vector (c .f32x4-neg .ensures))
+returns-2 c l = total-arm 225 _ _ (c .before .match .keys2) (as-vector (c .f32x4-neg .ensures))
 
 returns-3 : tie.Need-returns-3
 unfolding instruction table
-returns-3 c = arm from-224 234 _ _ (c .before .match .keys3) (as-vector (c .f32x4-pmin .ensures))
+returns-3 c l = total-arm 234 _ _ (c .before .match .keys3) (as-vector (c .f32x4-pmin .ensures))
 
 returns-4 : tie.Need-returns-4
 unfolding instruction table
-returns-4 c = arm from-224 235 _ _ (c .before .match .keys4) (as-vector (c .f32x4-pmax .ensures))
+returns-4 c l = total-arm 235 _ _ (c .before .match .keys4) (as-vector (c .f32x4-pmax .ensures))
 
 returns-5 : tie.Need-returns-5
 unfolding instruction table
-returns-5 c = arm from-224 236 _ _ (c .before .match .keys5) (as-vector (c .f64x2-abs .ensures))
+returns-5 c l = total-arm 236 _ _ (c .before .match .keys5) (as-vector (c .f64x2-abs .ensures))
 
 returns-6 : tie.Need-returns-6
 unfolding instruction table
-returns-6 c = arm from-224 237 _ _ (c .before .match .keys6) (as-vector (c .f64x2-neg .ensures))
+returns-6 c l = total-arm 237 _ _ (c .before .match .keys6) (as-vector (c .f64x2-neg .ensures))
 
 returns-7 : tie.Need-returns-7
 unfolding instruction table
-returns-7 c = arm from-224 246 _ _ (c .before .match .keys7) (as-vector (c .f64x2-pmin .ensures))
+returns-7 c l = total-arm 246 _ _ (c .before .match .keys7) (as-vector (c .f64x2-pmin .ensures))
 
 returns-8 : tie.Need-returns-8
 unfolding instruction table
-returns-8 c = arm from-224 247 _ _ (c .before .match .keys8) (as-vector (c .f64x2-pmax .ensures))
+returns-8 c l = total-arm 247 _ _ (c .before .match .keys8) (as-vector (c .f64x2-pmax .ensures))
 
 returns-9 : tie.Need-returns-9
-returns-9 c = past _ from-224 _ (c .match .rest)
+returns-9 c l = none-224 _ _ l (search needs) (c .match .rest)
 
 pub from-224-spec : {M : Type 1} → statement M
 from-224-spec =

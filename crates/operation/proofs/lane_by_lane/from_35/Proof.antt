@@ -1,7 +1,6 @@
 -- `operation::lane_by_lane::from_35` meets its contract: each arm by its method's promise, at the number that led there. Assumes nothing.
 use Rattle.standard.specs.Instruction.{table, instruction}
-use Rattle.operation.specs.Numbers.{from-35, from-35-own, from-55}
-use Rattle.operation.proofs.Arms.{as-vector, arm, passed-on}
+use Rattle.operation.proofs.Arms.{as-vector, total-arm, none-35}
 use borrow.Author.Needs.{needs}
 use Rattle.operation.proofs.lane_by_lane.from_35.Statement.{statement}
 use Rattle.operation.proofs.lane_by_lane.from_35.Tie as tie
@@ -66,91 +65,88 @@ i16x8-ge-s-requires c κs = search needs
 i16x8-ge-u-requires : tie.Need-i16x8-ge-u-requires
 i16x8-ge-u-requires c κs = search needs
 
-from-55-requires : tie.Need-from-55-requires
-from-55-requires c κs = search needs
-
 returns : tie.Need-returns
 unfolding instruction table
-returns c = arm from-35 35 _ _ (c .before .match .keys1) (as-vector (c .i8x16-eq .ensures))
+returns c l u = total-arm 35 _ _ (c .before .match .keys1) (as-vector (c .i8x16-eq .ensures))
 
 returns-2 : tie.Need-returns-2
 unfolding instruction table
-returns-2 c = arm from-35 36 _ _ (c .before .match .keys2) (as-vector (c .i8x16-ne .ensures))
+returns-2 c l u = total-arm 36 _ _ (c .before .match .keys2) (as-vector (c .i8x16-ne .ensures))
 
 returns-3 : tie.Need-returns-3
 unfolding instruction table
-returns-3 c = arm from-35 37 _ _ (c .before .match .keys3) (as-vector (c .i8x16-lt-s .ensures))
+returns-3 c l u = total-arm 37 _ _ (c .before .match .keys3) (as-vector (c .i8x16-lt-s .ensures))
 
 returns-4 : tie.Need-returns-4
 unfolding instruction table
-returns-4 c = arm from-35 38 _ _ (c .before .match .keys4) (as-vector (c .i8x16-lt-u .ensures))
+returns-4 c l u = total-arm 38 _ _ (c .before .match .keys4) (as-vector (c .i8x16-lt-u .ensures))
 
 returns-5 : tie.Need-returns-5
 unfolding instruction table
-returns-5 c = arm from-35 39 _ _ (c .before .match .keys5) (as-vector (c .i8x16-gt-s .ensures))
+returns-5 c l u = total-arm 39 _ _ (c .before .match .keys5) (as-vector (c .i8x16-gt-s .ensures))
 
 returns-6 : tie.Need-returns-6
 unfolding instruction table
-returns-6 c = arm from-35 40 _ _ (c .before .match .keys6) (as-vector (c .i8x16-gt-u .ensures))
+returns-6 c l u = total-arm 40 _ _ (c .before .match .keys6) (as-vector (c .i8x16-gt-u .ensures))
 
 returns-7 : tie.Need-returns-7
 unfolding instruction table
-returns-7 c = arm from-35 41 _ _ (c .before .match .keys7) (as-vector (c .i8x16-le-s .ensures))
+returns-7 c l u = total-arm 41 _ _ (c .before .match .keys7) (as-vector (c .i8x16-le-s .ensures))
 
 returns-8 : tie.Need-returns-8
 unfolding instruction table
-returns-8 c = arm from-35 42 _ _ (c .before .match .keys8) (as-vector (c .i8x16-le-u .ensures))
+returns-8 c l u = total-arm 42 _ _ (c .before .match .keys8) (as-vector (c .i8x16-le-u .ensures))
 
 returns-9 : tie.Need-returns-9
 unfolding instruction table
-returns-9 c = arm from-35 43 _ _ (c .before .match .keys9) (as-vector (c .i8x16-ge-s .ensures))
+returns-9 c l u = total-arm 43 _ _ (c .before .match .keys9) (as-vector (c .i8x16-ge-s .ensures))
 
 returns-10 : tie.Need-returns-10
 unfolding instruction table
-returns-10 c = arm from-35 44 _ _ (c .before .match .keys10) (as-vector (c .i8x16-ge-u .ensures))
+returns-10 c l u = total-arm 44 _ _ (c .before .match .keys10) (as-vector (c .i8x16-ge-u .ensures))
 
 returns-11 : tie.Need-returns-11
 unfolding instruction table
-returns-11 c = arm from-35 45 _ _ (c .before .match .keys11) (as-vector (c .i16x8-eq .ensures))
+returns-11 c l u = total-arm 45 _ _ (c .before .match .keys11) (as-vector (c .i16x8-eq .ensures))
 
 returns-12 : tie.Need-returns-12
 unfolding instruction table
-returns-12 c = arm from-35 46 _ _ (c .before .match .keys12) (as-vector (c .i16x8-ne .ensures))
+returns-12 c l u = total-arm 46 _ _ (c .before .match .keys12) (as-vector (c .i16x8-ne .ensures))
 
 returns-13 : tie.Need-returns-13
 unfolding instruction table
-returns-13 c = arm from-35 47 _ _ (c .before .match .keys13) (as-vector (c .i16x8-lt-s .ensures))
+returns-13 c l u = total-arm 47 _ _ (c .before .match .keys13) (as-vector (c .i16x8-lt-s .ensures))
 
 returns-14 : tie.Need-returns-14
 unfolding instruction table
-returns-14 c = arm from-35 48 _ _ (c .before .match .keys14) (as-vector (c .i16x8-lt-u .ensures))
+returns-14 c l u = total-arm 48 _ _ (c .before .match .keys14) (as-vector (c .i16x8-lt-u .ensures))
 
 returns-15 : tie.Need-returns-15
 unfolding instruction table
-returns-15 c = arm from-35 49 _ _ (c .before .match .keys15) (as-vector (c .i16x8-gt-s .ensures))
+returns-15 c l u = total-arm 49 _ _ (c .before .match .keys15) (as-vector (c .i16x8-gt-s .ensures))
 
 returns-16 : tie.Need-returns-16
 unfolding instruction table
-returns-16 c = arm from-35 50 _ _ (c .before .match .keys16) (as-vector (c .i16x8-gt-u .ensures))
+returns-16 c l u = total-arm 50 _ _ (c .before .match .keys16) (as-vector (c .i16x8-gt-u .ensures))
 
 returns-17 : tie.Need-returns-17
 unfolding instruction table
-returns-17 c = arm from-35 51 _ _ (c .before .match .keys17) (as-vector (c .i16x8-le-s .ensures))
+returns-17 c l u = total-arm 51 _ _ (c .before .match .keys17) (as-vector (c .i16x8-le-s .ensures))
 
 returns-18 : tie.Need-returns-18
 unfolding instruction table
-returns-18 c = arm from-35 52 _ _ (c .before .match .keys18) (as-vector (c .i16x8-le-u .ensures))
+returns-18 c l u = total-arm 52 _ _ (c .before .match .keys18) (as-vector (c .i16x8-le-u .ensures))
 
 returns-19 : tie.Need-returns-19
 unfolding instruction table
-returns-19 c = arm from-35 53 _ _ (c .before .match .keys19) (as-vector (c .i16x8-ge-s .ensures))
+returns-19 c l u = total-arm 53 _ _ (c .before .match .keys19) (as-vector (c .i16x8-ge-s .ensures))
 
 returns-20 : tie.Need-returns-20
 unfolding instruction table
-returns-20 c = arm from-35 54 _ _ (c .before .match .keys20) (as-vector (c .i16x8-ge-u .ensures))
+returns-20 c l u = total-arm 54 _ _ (c .before .match .keys20) (as-vector (c .i16x8-ge-u .ensures))
 
 returns-21 : tie.Need-returns-21
-returns-21 c = passed-on _ from-35-own from-55 _ _ (c .before .match .rest) (c .from-55 .ensures)
+returns-21 c l u = none-35 _ _ l u (c .match .rest)
 
 pub from-35-spec : {M : Type 1} → statement M
 from-35-spec =
@@ -176,7 +172,6 @@ from-35-spec =
     i16x8-le-u-requires
     i16x8-ge-s-requires
     i16x8-ge-u-requires
-    from-55-requires
     returns
     returns-2
     returns-3
