@@ -1,6 +1,6 @@
 pub mod Examples
 pub mod Registers
-pub mod Rows
+pub mod Letters
 pub mod Judged
 pub mod Done
 pub mod Slices

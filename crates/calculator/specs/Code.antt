@@ -1,12 +1,13 @@
 -- What the calculator's state, profile and answers stand for in the definition.
-use Prim.Native.Nat.{ℕ, _-_, _/_, _%_}
+use Prim.Native.Nat.{ℕ, _%_}
+use mathlib.Core.Bool.{Bool, true, false, cond}
 use mathlib.Core.List.{List, [], _∷_, map}
 use lib.ListN.{getD, set}
 use lib.Dec.{eqb}
-use Rattle.standard.specs.Instruction.{Kind, i32, i64, f32, f64}
+use Rattle.standard.specs.Instruction.{Kind, i32, i64, f32, f64, shuffled}
 use Rattle.standard.specs.Refusal.{Answer, given, refused}
 use Rattle.simd.specs.Number.{number}
-use Rattle.calculator.specs.Definition.{Machine, Profile, lane, count, indices, hold}
+use Rattle.calculator.specs.Definition.{Machine, Profile, no-step, profile, lane, count, indices, hold}
 use Rattle.calculator.specs.declared.decide.Profile as code
 use Rattle.operation.specs.Outcome.{Operands, Outcome, vector, scalar}
 use Rattle.operation.specs.Code.{kind-of, bits-of}
@@ -50,17 +51,49 @@ settled m i (refused n) = m
 abbrev pub kinds-of : ℕ → List Kind
 kinds-of n = getD ([] ∷ (i32 ∷ []) ∷ (i64 ∷ []) ∷ (f32 ∷ []) ∷ (f64 ∷ []) ∷ []) n []
 
--- a row of the table of decide.rt
-abbrev pub unpacked : ℕ → Profile
-unpacked r =
+-- an instruction that shuffles nothing
+abbrev pub taking : ℕ → Bool → ℕ → ℕ → Profile
+taking operands gives-vector lane-count reads =
     record {
-      has-step = eqb (r % 2) 1;
-      operands = r / 2 % 4;
-      gives-vector = eqb (r / 8 % 2) 1;
-      lane-count = 256 - r / 256;
-      shuffles = eqb (r / 16 % 2) 1;
-      reads = kinds-of (r / 32 % 8);
+      has-step = true;
+      operands = operands;
+      gives-vector = gives-vector;
+      lane-count = lane-count;
+      shuffles = false;
+      reads = kinds-of reads;
     }
+
+-- the letters of decide.rt, and what they stand for
+abbrev pub letters : List (ℕ × Profile)
+letters =
+    (120, profile shuffled)
+    ∷ (115, taking 1 true 2 4)
+    ∷ (114, taking 1 true 4 3)
+    ∷ (113, taking 1 true 2 2)
+    ∷ (119, taking 1 true 4 1)
+    ∷ (104, taking 1 true 8 1)
+    ∷ (98, taking 1 true 16 1)
+    ∷ (68, taking 1 false 2 0)
+    ∷ (87, taking 1 false 4 0)
+    ∷ (72, taking 1 false 8 0)
+    ∷ (66, taking 1 false 16 0)
+    ∷ (100, taking 0 true 256 4)
+    ∷ (102, taking 0 true 256 3)
+    ∷ (108, taking 0 true 256 2)
+    ∷ (105, taking 0 true 256 1)
+    ∷ (116, taking 1 false 256 0)
+    ∷ (51, taking 3 true 256 0)
+    ∷ (50, taking 2 true 256 0)
+    ∷ (49, taking 1 true 256 0)
+    ∷ (48, taking 0 true 256 0)
+    ∷ []
+
+abbrev pub found : ℕ → List (ℕ × Profile) → Profile
+found n [] = no-step
+found n (x ∷ xs) = cond (eqb n (x .0)) (x .1) (found n xs)
+
+abbrev pub shape-of : ℕ → Profile
+shape-of n = found n letters
 
 abbrev pub profile-of : code.Profile → Profile
 profile-of p =
