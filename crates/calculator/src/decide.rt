@@ -21,6 +21,24 @@ pub struct Profile {
 // The lane count where the lane is not used: every byte is below it.
 const NOT_USED: u16 = 256;
 
+const SHUFFLE: Profile = Profile {
+    has_step: true,
+    operands: 2,
+    gives_vector: true,
+    lane_count: NOT_USED,
+    shuffles: true,
+    reads: 0,
+};
+
+const NO_STEP: Profile = Profile {
+    has_step: false,
+    operands: 0,
+    gives_vector: false,
+    lane_count: NOT_USED,
+    shuffles: false,
+    reads: 0,
+};
+
 // A letter for each of the standard's numbers 0 to 275, which `shape` reads.
 fn letter(operation: u16) -> u8
     ensures { λ r. ⌜ shape-of r ≡ profile (instruction operation) ⌝ }
@@ -74,22 +92,8 @@ fn shape(letter: u8) -> Profile
         b'r' => takes(1, true, 4, 3),
         b's' => takes(1, true, 2, 4),
         // shuffle
-        b'x' => Profile {
-            has_step: true,
-            operands: 2,
-            gives_vector: true,
-            lane_count: NOT_USED,
-            shuffles: true,
-            reads: 0,
-        },
-        _ => Profile {
-            has_step: false,
-            operands: 0,
-            gives_vector: false,
-            lane_count: NOT_USED,
-            shuffles: false,
-            reads: 0,
-        },
+        b'x' => SHUFFLE,
+        _ => NO_STEP,
     }
 }
 
