@@ -39,14 +39,23 @@ const NO_STEP: Profile = Profile {
     reads: 0,
 };
 
-// A letter for each of the standard's numbers 0 to 275, which `shape` reads.
+// A letter for each of the standard's numbers, 32 to a row, which `shape` reads.
 fn letter(operation: u16) -> u8
     ensures { λ r. ⌜ shape-of r ≡ profile (instruction operation) ⌝ }
 {
-    let i = operation as usize;
-    let letters =
-        b"............0x2iiilfdBBbHHhWwDqWrDs222222222222222222222222222222222222222222122223t............111tt22....111222222..2222.21111112tt221111111222222.22222.2222211.tt..11111112..2...222222.222211.tt..11111112..2...2222222222211........2211........22............................";
-    if i < 276 { letters[i] } else { b'.' }
+    let i = (operation % 32) as usize;
+    match operation / 32 {
+        0 => b"............0x2iiilfdBBbHHhWwDqW"[i],
+        1 => b"rDs22222222222222222222222222222"[i],
+        2 => b"2222222222222122223t............"[i],
+        3 => b"111tt22....111222222..2222.21111"[i],
+        4 => b"112tt221111111222222.22222.22222"[i],
+        5 => b"11.tt..11111112..2...222222.2222"[i],
+        6 => b"11.tt..11111112..2...22222222222"[i],
+        7 => b"11........2211........22........"[i],
+        8 => b"................................"[i],
+        _ => b'.',
+    }
 }
 
 fn takes(operands: u8, gives_vector: bool, lane_count: u16, reads: u8) -> Profile
