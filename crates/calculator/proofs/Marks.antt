@@ -8,7 +8,7 @@ use lib.Seq.{getD-take, getD-drop}
 use Rattle.standard.specs.Refusal.{Answer, given, refused}
 use Rattle.standard.specs.Instruction.{Instruction, none, memory, const, shuffled, vector₁, vector₂, vector₃, shifted, tested, splatted, extracted, replaced, instruction}
 use Rattle.calculator.specs.Definition.{Machine, Ending, Profile, bytes, operation, profile, refusal, effect, answer, step, after, steps, run}
-use Rattle.calculator.specs.Code.{machine}
+use Rattle.calculator.specs.State.{machine}
 use Rattle.calculator.specs.Run.{ending-of}
 use Rattle.calculator.specs.declared.run.Ending as code
 use Rattle.calculator.specs.declared.state.State.{State}

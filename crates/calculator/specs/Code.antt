@@ -1,20 +1,14 @@
--- What the calculator's state, profile and answers stand for in the definition.
+-- What the parts of a step stand for, between the code and the definition.
 use Prim.Native.Nat.{ℕ, _%_}
 use mathlib.Core.Bool.{Bool, true, false, cond}
-use mathlib.Core.List.{List, [], _∷_, map}
+use mathlib.Core.List.{List, [], _∷_}
 use lib.ListN.{getD, set}
 use lib.Dec.{eqb}
 use Rattle.standard.specs.Instruction.{Kind, i32, i64, f32, f64, shuffled}
 use Rattle.standard.specs.Refusal.{Answer, given, refused}
-use Rattle.simd.specs.Number.{number}
 use Rattle.calculator.specs.Definition.{Machine, Profile, no-step, profile, lane, count, indices, hold}
 use Rattle.calculator.specs.declared.decide.Profile as code
 use Rattle.operation.specs.Outcome.{Operands, Outcome, vector, scalar}
-use Rattle.operation.specs.Code.{kind-of, bits-of}
-use Rattle.calculator.specs.declared.state.State.{State}
-
-abbrev pub machine : State → Machine
-machine s = record { registers = map number (s .registers); kind = kind-of (s .scalar); bits = bits-of (s .scalar) }
 
 -- a vector in a register
 abbrev pub written : Machine → ℕ → ℕ → Machine

@@ -1,3 +1,4 @@
 pub mod Definition
+pub mod State
 pub mod Code
 pub mod Run

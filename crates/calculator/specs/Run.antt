@@ -4,7 +4,7 @@ use lib.Dec.{eqb}
 use Rattle.standard.specs.Refusal.{Answer, given, refused}
 use Rattle.calculator.specs.Definition as definition
 use Rattle.calculator.specs.Definition.{Machine}
-use Rattle.calculator.specs.Code.{machine}
+use Rattle.calculator.specs.State.{machine}
 use Rattle.calculator.specs.declared.step.Stepped.{Stepped}
 use Rattle.calculator.specs.declared.run.Ending.{Ending}
 

@@ -5,7 +5,7 @@ ghost use Rattle.standard.specs.Lanes.{joined};
 ghost use Rattle.operation.specs.Code.{operands-of};
 ghost use Rattle.calculator.specs.Definition;
 ghost use Rattle.calculator.specs.Code;
-ghost use Rattle.calculator.specs.Code.{machine};
+ghost use Rattle.calculator.specs.State.{machine};
 use crate::state::State;
 use operation::outcome::Operands;
 

@@ -6,7 +6,7 @@ ghost use lib.ListN.{getD, take};
 ghost use Rattle.standard.specs.Refusal.{legal};
 ghost use Rattle.calculator.specs.Definition.{unless, refusal, all-registers, used, sources, indices, right-kind};
 ghost use Rattle.calculator.specs.Code.{profile-of, kinds-of};
-ghost use Rattle.operation.specs.Code.{kind-of};
+ghost use Rattle.operation.specs.Scalar.{kind-of};
 use crate::decide::Profile;
 use operation::outcome::KIND;
 use operation::outcome::OPERATION;

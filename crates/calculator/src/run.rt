@@ -3,7 +3,7 @@ ghost use mathlib.Core.Path.{_≡_};
 ghost use Prim.Native.Nat.{_+_, _/_, _≤_};
 ghost use lib.ListN.{length, take, drop};
 ghost use Rattle.calculator.specs.Definition;
-ghost use Rattle.calculator.specs.Code.{machine};
+ghost use Rattle.calculator.specs.State.{machine};
 ghost use Rattle.calculator.specs.Run.{ending-of};
 use crate::state::State;
 use crate::step::step;

@@ -2,8 +2,10 @@
 ghost use mathlib.Core.Path.{_≡_};
 ghost use Prim.Native.Nat.{_%_};
 ghost use Rattle.calculator.specs.Definition.{hold, start};
-ghost use Rattle.calculator.specs.Code.{machine, settled};
-ghost use Rattle.operation.specs.Code.{kind-of, bits-of, outcome-of};
+ghost use Rattle.calculator.specs.State.{machine};
+ghost use Rattle.calculator.specs.Code.{settled};
+ghost use Rattle.operation.specs.Scalar.{kind-of, bits-of};
+ghost use Rattle.operation.specs.Code.{outcome-of};
 use operation::outcome::Outcome;
 use operation::scalar::Scalar;
 use simd::V128;

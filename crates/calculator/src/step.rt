@@ -1,7 +1,7 @@
 // A step: decided, judged, and done where it is not refused.
 ghost use mathlib.Core.Path.{_≡_};
 ghost use Rattle.calculator.specs.Definition;
-ghost use Rattle.calculator.specs.Code.{machine};
+ghost use Rattle.calculator.specs.State.{machine};
 ghost use Rattle.calculator.specs.Run.{answer-of};
 use crate::decide::decide;
 use crate::fields::operands;

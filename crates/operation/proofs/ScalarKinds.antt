@@ -12,7 +12,7 @@ use borrow.Author.Tests.{ne-eqb}
 use Rattle.standard.specs.Instruction.{kind-number}
 use Rattle.standard.specs.Refusal.{Answer, given, refused}
 use Rattle.operation.specs.Outcome.{mapped}
-use Rattle.operation.specs.Code.{kind-of}
+use Rattle.operation.specs.Scalar.{kind-of}
 use Rattle.operation.specs.declared.scalar.Scalar.{Scalar}
 use Rattle.operation.proofs.scalar.Scalar.{the-type}
 

@@ -2,7 +2,7 @@
 // pattern of bits has a value.
 ghost use mathlib.Core.Path.{_≡_};
 ghost use Rattle.standard.specs.Instruction.{kind-number};
-ghost use Rattle.operation.specs.Code.{kind-of, bits-of};
+ghost use Rattle.operation.specs.Scalar.{kind-of, bits-of};
 use lane::float::F32;
 use lane::float::F64;
 use lane::reinterpret::unsigned32;

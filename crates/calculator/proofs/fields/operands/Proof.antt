@@ -3,7 +3,8 @@ use mathlib.Core.Path.{_≡_, sym}
 use Prim.Native.Nat.{ℕ, _%_}
 use lib.ListN.{getD, List·getD-map}
 use Rattle.simd.specs.Number.{number}
-use Rattle.calculator.specs.Code.{machine, named}
+use Rattle.calculator.specs.State.{machine}
+use Rattle.calculator.specs.Code.{named}
 use borrow.Author.Needs.{needs}
 use Rattle.calculator.proofs.fields.operands.Statement.{statement}
 use Rattle.calculator.proofs.fields.operands.Tie as tie

@@ -9,7 +9,7 @@ use Prim.Native.Nat.{_*_, _-_, _≤_, _<_}
 use native.Mathlib.Omega.{arith}
 use lib.ListN.{length, take, drop}
 use Rattle.calculator.specs.Definition.{step, steps}
-use Rattle.calculator.specs.Code.{machine}
+use Rattle.calculator.specs.State.{machine}
 use Rattle.calculator.proofs.run.steps.Statement.{statement}
 use Rattle.calculator.proofs.run.steps.Tie as tie
 

@@ -1,9 +1,9 @@
 -- `calculator::step::step` meets its contract: what the judge says, and where it is no refusal what is done. Assumes nothing.
-use Rattle.calculator.specs.Code.{machine}
+use Rattle.calculator.specs.State.{machine}
 use mathlib.Core.Path.{_≡_, refl}
 use borrow.Author.Tests.{ne-eqb}
 use Rattle.standard.specs.Instruction.{instruction}
-use Rattle.operation.specs.Code.{kind-of}
+use Rattle.operation.specs.Scalar.{kind-of}
 use Rattle.calculator.specs.Definition.{profile, refusal, effect, step}
 use Rattle.calculator.proofs.Done.{done}
 use borrow.Author.Needs.{needs}
