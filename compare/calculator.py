@@ -1,0 +1,349 @@
+"""A second calculator, written from document 01 ("The calculator (added)", "Lane rules") and the standard's list of instruction numbers.
+
+It shares nothing with the crates. A vector is the number of its 128 bits; N is the width of a lane, as in the standard. What stands in quotation
+marks is document 01. `python3 compare/calculator.py < LIST` writes what the program `lanes` has to write for the list.
+
+The list of instruction numbers is the file that the variable OPCODES names (default: standard/opcodes.tsv in ../shared beside the repository, or in
+the folder that SHARED names).
+"""
+
+import csv
+import math
+import os
+import re
+import struct
+import sys
+from pathlib import Path
+from typing import NamedTuple
+
+REPOSITORY = Path(__file__).resolve().parent.parent
+
+
+class Instruction(NamedTuple):
+    """An instruction that has a calculator step."""
+
+    number: int
+    name: str
+    # How many vectors it takes.
+    sources: int
+    # "Fields that an operation does not use are ignored": 256 there, which every byte is below.
+    lane_count: int
+    # The kind of the scalar that it reads, or "-".
+    reads: str
+    has_indices: bool
+    # "vector", or the kind of the scalar that it sets.
+    gives: str
+
+
+# "0..1 operation, the standard's number after the 0xFD prefix; 2 destination; 3, 4, 5 sources a, b, c; 6 lane; 7 mark (0 lane by lane, anything else
+# packed); 8..11 shift count, unsigned; 12..15 ignored; 16..31 the constant of v128.const or the sixteen shuffle indices."
+class Step(NamedTuple):
+    operation: int
+    destination: int
+    a: int
+    b: int
+    c: int
+    lane: int
+    mark: int
+    count: int
+    ignored: bytes
+    constant: bytes
+
+
+# "A step is 32 bytes"; "Numbers are little-endian."
+LAYOUT = struct.Struct("<H6BI4s16s")
+
+# "The vector operands, in the standard's order, are a, b, c"
+SOURCES = ("a", "b", "c")
+
+
+# "State: 16 registers and one scalar."
+class State(NamedTuple):
+    registers: tuple
+    kind: str
+    bits: int
+
+
+# "starts from zero registers and scalar i32 0"
+START = State((0,) * 16, "i32", 0)
+
+
+class Ending(NamedTuple):
+    state: State
+    # "The count is the number of steps before the refused one, or all."
+    done: int
+    # Every refusal that holds for the refused step, the one that is given first; none where no step is refused.
+    refusals: list
+
+
+def read_instructions():
+    """The instructions that document 01 gives a calculator step, by their numbers."""
+    shared = Path(os.environ.get("SHARED") or REPOSITORY.parent / "shared")
+    path = Path(os.environ.get("OPCODES") or shared / "standard" / "opcodes.tsv")
+    try:
+        rows = csv.DictReader(path.read_text().splitlines(), delimiter="\t")
+    except OSError as error:
+        sys.exit("no list of instruction numbers (the variable OPCODES can name it): %s" % error)
+    return {int(row["number"]): instruction_of(row) for row in rows if row.get("calculator step") == "document 01"}
+
+
+def instruction_of(row):
+    return Instruction(
+        number=int(row["number"]),
+        name=row["name"],
+        sources=int(row["vector sources"]),
+        lane_count=256 if row["lane count"] == "-" else int(row["lane count"]),
+        reads=row["scalar read"],
+        has_indices=row["constant field"] == "indices",
+        gives=row["result"].removeprefix("scalar "),
+    )
+
+
+# Lanes.
+
+
+def lanes(N, vector):
+    # "Lane i of width w bits is bits w·i to w·i+w−1."
+    return [(vector >> (N * i)) % 2**N for i in range(128 // N)]
+
+
+def joined(N, numbers):
+    """The vector of these lanes, each taken modulo 2^N."""
+    return sum((number % 2**N) << (N * i) for i, number in enumerate(numbers))
+
+
+def signed(N, i):
+    return i if i < 2 ** (N - 1) else i - 2**N
+
+
+def sat_u(N, i):
+    return min(max(i, 0), 2**N - 1)
+
+
+def sat_s(N, i):
+    return min(max(i, -(2 ** (N - 1))), 2 ** (N - 1) - 1)
+
+
+def truth(holds):
+    # "Comparison: all ones or all zeros." Modulo 2^N, -1 is all ones.
+    return -1 if holds else 0
+
+
+def float_of(N, bits):
+    # Python compares floats as the standard does: "With a NaN only "not equal" is true. −0 equals +0."
+    return struct.unpack({32: "<f", 64: "<d"}[N], bits.to_bytes(N // 8, "little"))[0]
+
+
+# What the instructions make of one lane of each source. `joined` takes the result modulo 2^N.
+INTEGER = {
+    # "Add, subtract, multiply, negate, abs: modulo 2^w. Abs of −128 in 8 bits is −128."
+    "add": lambda N, i1, i2: i1 + i2,
+    "sub": lambda N, i1, i2: i1 - i2,
+    "mul": lambda N, i1, i2: i1 * i2,
+    "neg": lambda N, i: -i,
+    "abs": lambda N, i: abs(signed(N, i)),
+    # "Saturating: the exact sum or difference, held to the signed or unsigned range (8 and 16 bits only)."
+    "add_sat_s": lambda N, i1, i2: sat_s(N, signed(N, i1) + signed(N, i2)),
+    "add_sat_u": lambda N, i1, i2: sat_u(N, i1 + i2),
+    "sub_sat_s": lambda N, i1, i2: sat_s(N, signed(N, i1) - signed(N, i2)),
+    "sub_sat_u": lambda N, i1, i2: sat_u(N, i1 - i2),
+    "min_s": lambda N, i1, i2: min(signed(N, i1), signed(N, i2)),
+    "min_u": lambda N, i1, i2: min(i1, i2),
+    "max_s": lambda N, i1, i2: max(signed(N, i1), signed(N, i2)),
+    "max_u": lambda N, i1, i2: max(i1, i2),
+    # "Average: (a + b + 1) divided by 2, rounded down, unsigned, 8 and 16 bits."
+    "avgr_u": lambda N, i1, i2: (i1 + i2 + 1) // 2,
+    # "q15mulr: the floor of (x·y + 16384) / 32768, held to −32768..32767."
+    "q15mulr_sat_s": lambda N, i1, i2: sat_s(N, (signed(N, i1) * signed(N, i2) + 16384) // 32768),
+    # "popcnt counts the one bits of each 8-bit lane."
+    "popcnt": lambda N, i: bin(i).count("1"),
+    "eq": lambda N, i1, i2: truth(i1 == i2),
+    "ne": lambda N, i1, i2: truth(i1 != i2),
+    "lt_s": lambda N, i1, i2: truth(signed(N, i1) < signed(N, i2)),
+    "lt_u": lambda N, i1, i2: truth(i1 < i2),
+    "gt_s": lambda N, i1, i2: truth(signed(N, i1) > signed(N, i2)),
+    "gt_u": lambda N, i1, i2: truth(i1 > i2),
+    "le_s": lambda N, i1, i2: truth(signed(N, i1) <= signed(N, i2)),
+    "le_u": lambda N, i1, i2: truth(i1 <= i2),
+    "ge_s": lambda N, i1, i2: truth(signed(N, i1) >= signed(N, i2)),
+    "ge_u": lambda N, i1, i2: truth(i1 >= i2),
+}
+
+FLOAT = {
+    # "Float neg and abs touch the sign bit only, of a NaN too."
+    "neg": lambda N, z: z ^ 2 ** (N - 1),
+    "abs": lambda N, z: z % 2 ** (N - 1),
+    "eq": lambda N, z1, z2: truth(float_of(N, z1) == float_of(N, z2)),
+    "ne": lambda N, z1, z2: truth(float_of(N, z1) != float_of(N, z2)),
+    "lt": lambda N, z1, z2: truth(float_of(N, z1) < float_of(N, z2)),
+    "gt": lambda N, z1, z2: truth(float_of(N, z1) > float_of(N, z2)),
+    "le": lambda N, z1, z2: truth(float_of(N, z1) <= float_of(N, z2)),
+    "ge": lambda N, z1, z2: truth(float_of(N, z1) >= float_of(N, z2)),
+    # "pmin is b where b < a, else a. pmax is b where a < b, else a. Result bits are those of the chosen lane."
+    "pmin": lambda N, z1, z2: z2 if float_of(N, z2) < float_of(N, z1) else z1,
+    "pmax": lambda N, z1, z2: z2 if float_of(N, z1) < float_of(N, z2) else z1,
+}
+
+# "Shift: the count is taken modulo the lane width [by the caller]. shr_s is the floor of the signed lane over 2^count."
+SHIFT = {
+    "shl": lambda N, i, count: i << count,
+    "shr_u": lambda N, i, count: i >> count,
+    "shr_s": lambda N, i, count: signed(N, i) // 2**count,
+}
+
+# What the instructions of shape v128 make of all 128 bits at once.
+WHOLE = {
+    "not": lambda i: ~i % 2**128,
+    "and": lambda i1, i2: i1 & i2,
+    "andnot": lambda i1, i2: i1 & ~i2,
+    "or": lambda i1, i2: i1 | i2,
+    "xor": lambda i1, i2: i1 ^ i2,
+    # "bitselect takes its mask from c"
+    "bitselect": lambda i1, i2, mask: (i1 & mask) | (i2 & ~mask),
+    "any_true": lambda i: int(i != 0),
+}
+
+# An instruction that reads lanes of another width than it gives: the action, the width and the sign of the lanes that it reads.
+OTHER_WIDTH = re.compile(r"(narrow|extend_low|extend_high|extmul_low|extmul_high|extadd_pairwise|dot)_i(\d+)x\d+_([su])")
+
+
+def from_other_width(N, action, M, sign, vectors):
+    """The lanes of N bits that come of lanes of M bits."""
+    if action == "narrow":
+        # "Narrowing reads input lanes as signed for both kinds, then holds them to the signed or the unsigned range. The first vector gives the low
+        # lanes."
+        hold = {"s": sat_s, "u": sat_u}[sign]
+        return [hold(N, signed(M, i)) for vector in vectors for i in lanes(M, vector)]
+    operands = [[signed(M, i) if sign == "s" else i for i in lanes(M, vector)] for vector in vectors]
+    # "Extend and extended multiply take the low or high half of the lanes; the products are exact."
+    if action.endswith("_low"):
+        operands = [operand[: 64 // M] for operand in operands]
+    if action.endswith("_high"):
+        operands = [operand[64 // M :] for operand in operands]
+    # Of a single operand these are its lanes.
+    products = [math.prod(factors) for factors in zip(*operands)]
+    if action in ("extadd_pairwise", "dot"):
+        # "Dot: lane i is x(2i)·y(2i) + x(2i+1)·y(2i+1) modulo 2^32, signed."
+        return [low + high for low, high in zip(products[0::2], products[1::2])]
+    return products
+
+
+def new_lanes(N, shape, operation, step, bits, vectors):
+    """The lanes that an instruction gives, of a shape with lanes of N bits."""
+    if operation == "splat":
+        # "For 8- and 16-bit lanes the low bits of an i32 are used."
+        return [bits] * (128 // N)
+    if operation == "replace_lane":
+        replaced = lanes(N, vectors[0])
+        replaced[step.lane] = bits
+        return replaced
+    if operation == "shuffle":
+        # "Shuffle: indices 0 to 15 name the first vector, 16 to 31 the second."
+        both = lanes(8, vectors[0]) + lanes(8, vectors[1])
+        return [both[index] for index in step.constant]
+    if operation == "swizzle":
+        # "Swizzle: an index of 16 to 255 gives 0."
+        padded = lanes(8, vectors[0]) + [0] * 240
+        return [padded[index] for index in lanes(8, vectors[1])]
+    if operation in SHIFT:
+        return [SHIFT[operation](N, i, step.count % N) for i in lanes(N, vectors[0])]
+    other = OTHER_WIDTH.fullmatch(operation)
+    if other:
+        return from_other_width(N, other[1], int(other[2]), other[3], vectors)
+    lane_operation = (FLOAT if shape[0] == "f" else INTEGER)[operation]
+    return [lane_operation(N, *operands) for operands in zip(*(lanes(N, vector) for vector in vectors))]
+
+
+def new_scalar(N, operation, step, vector):
+    """The bits of the scalar that an instruction sets, of a shape with lanes of N bits."""
+    if operation == "all_true":
+        return int(all(lanes(N, vector)))
+    if operation == "bitmask":
+        # "Bitmask: bit i is the sign bit of lane i, all higher bits zero."
+        return joined(1, [i >> (N - 1) for i in lanes(N, vector)])
+    extracted = lanes(N, vector)[step.lane]
+    return signed(N, extracted) % 2**32 if operation == "extract_lane_s" else extracted
+
+
+def result(instruction, step, state):
+    """The vector, or the bits of the scalar, that an instruction gives."""
+    shape, operation = instruction.name.split(".")
+    vectors = [state.registers[getattr(step, source)] for source in SOURCES[: instruction.sources]]
+    if operation == "const":
+        return int.from_bytes(step.constant, "little")
+    if shape == "v128":
+        return WHOLE[operation](*vectors)
+    N = int(shape[1:].split("x")[0])
+    if instruction.gives == "vector":
+        return joined(N, new_lanes(N, shape, operation, step, state.bits, vectors))
+    return new_scalar(N, operation, step, vectors[0])
+
+
+# Steps.
+
+
+def used_registers(instruction):
+    """The fields of a step that name a register."""
+    # "The destination is used only where the result is a vector."
+    destination = ("destination",) if instruction.gives == "vector" else ()
+    return SOURCES[: instruction.sources] + destination
+
+
+def refusals(instruction, step, kind):
+    """The refusals that hold for a step while the scalar is of this kind, lowest first: "Checked in the order 1 to 7"."""
+    if instruction is None:
+        # "operation number without a calculator step: not carried over, a load or a store, or no instruction"
+        return [2]
+    held = {
+        # "a used register number above 15"
+        3: any(getattr(step, field) > 15 for field in used_registers(instruction)),
+        # "lane not below the lane count"
+        4: step.lane >= instruction.lane_count,
+        # "a shuffle index above 31"
+        5: instruction.has_indices and max(step.constant) > 31,
+        # "scalar of the wrong kind"
+        6: instruction.reads not in ("-", kind),
+    }
+    return [number for number, holds in held.items() if holds]
+
+
+def after(instruction, step, state):
+    """The state after a step that is not refused."""
+    given = result(instruction, step, state)
+    if instruction.gives != "vector":
+        return State(state.registers, instruction.gives, given)
+    registers = list(state.registers)
+    registers[step.destination] = given
+    return state._replace(registers=tuple(registers))
+
+
+def run(instructions, data):
+    """What a list ends in."""
+    # 1: "list length not a multiple of 32, or above 8,192"; "0 steps, state as given"
+    if len(data) % 32 or len(data) > 8192:
+        return Ending(START, 0, [1])
+    state = START
+    for done, fields in enumerate(LAYOUT.iter_unpack(data)):
+        step = Step(*fields)
+        found = instructions.get(step.operation)
+        refused = refusals(found, step, state.kind)
+        if refused:
+            return Ending(state, done, refused)
+        state = after(found, step, state)
+    return Ending(state, len(data) // 32, [])
+
+
+def listing(ending):
+    """What the program writes."""
+    registers, kind, bits = ending.state
+    # "`steps` and the count; one line for each register that is not all zero, lowest number first (`r` and two decimal digits, a space, then 16
+    # bytes in hex, byte 0 first); `s`, the kind and the bits in hex, highest digit first, 8 or 16 digits; `refused` and the number."
+    written = ["steps %d" % ending.done]
+    written += ["r%02d %s" % (number, vector.to_bytes(16, "little").hex()) for number, vector in enumerate(registers) if vector]
+    written += ["s %s %0*x" % (kind, int(kind[1:]) // 4, bits)]
+    written += ["refused %d" % (ending.refusals[0] if ending.refusals else 0)]
+    return "\n".join(written) + "\n"
+
+
+if __name__ == "__main__":
+    sys.stdout.write(listing(run(read_instructions(), sys.stdin.buffer.read())))
