@@ -1,5 +1,6 @@
 // Deciding what a step is: one letter for each of the standard's numbers 0 to 275, proved against the standard's table once for all of it.
 ghost use mathlib.Core.Path.{_≡_};
+ghost use Prim.Native.Nat.{_≤_, _<_};
 ghost use Rattle.standard.specs.Instruction.{instruction};
 ghost use Rattle.calculator.specs.Definition.{profile};
 ghost use Rattle.calculator.specs.Code.{taking, shape-of, profile-of};
@@ -39,18 +40,46 @@ const NO_STEP: Profile = Profile {
     reads: 0,
 };
 
-// A letter for each of the standard's numbers, 32 to a row, which `shape` reads.
+// A letter for each of the standard's numbers, 32 to a row, which `shape` reads. In three functions, since each lays its rows out anew when it runs.
 fn letter(operation: u16) -> u8
     ensures { λ r. ⌜ shape-of r ≡ profile (instruction operation) ⌝ }
+{
+    match operation {
+        0..=95 => letter_below_96(operation),
+        96..=191 => letter_below_192(operation),
+        _ => letter_from_192(operation),
+    }
+}
+
+fn letter_below_96(operation: u16) -> u8
+    ensures { λ r. ⌜ (operation < 96 → shape-of r ≡ profile (instruction operation)) ⌝ }
 {
     let i = (operation % 32) as usize;
     match operation / 32 {
         0 => b"............0x2iiilfdBBbHHhWwDqW"[i],
         1 => b"rDs22222222222222222222222222222"[i],
         2 => b"2222222222222122223t............"[i],
+        _ => b'.',
+    }
+}
+
+fn letter_below_192(operation: u16) -> u8
+    ensures { λ r. ⌜ (96 ≤ operation → operation < 192 → shape-of r ≡ profile (instruction operation)) ⌝ }
+{
+    let i = (operation % 32) as usize;
+    match operation / 32 {
         3 => b"111tt22....111222222..2222.21111"[i],
         4 => b"112tt221111111222222.22222.22222"[i],
         5 => b"11.tt..11111112..2...222222.2222"[i],
+        _ => b'.',
+    }
+}
+
+fn letter_from_192(operation: u16) -> u8
+    ensures { λ r. ⌜ (192 ≤ operation → shape-of r ≡ profile (instruction operation)) ⌝ }
+{
+    let i = (operation % 32) as usize;
+    match operation / 32 {
         6 => b"11.tt..11111112..2...22222222222"[i],
         7 => b"11........2211........22........"[i],
         8 => b"................................"[i],
