@@ -1,13 +1,13 @@
 -- The definition's run, computed: document 01's example of two steps and each refusal in one table with one theorem, and the lengths that pass.
 -- Assumes nothing.
 use mathlib.Core.Path.{_≡_, refl}
-use mathlib.Core.Bool.{Bool, true, false}
+use mathlib.Core.Bool.{true, false}
 use mathlib.Core.List.{List, [], _∷_, _++_, map}
 use Prim.Native.Nat.{ℕ}
 use lib.ListN.{replicate, set}
 use Rattle.standard.specs.Lanes.{joined, unary, extract}
 use Rattle.standard.specs.Instruction.{i32, table, instruction}
-use Rattle.calculator.specs.Definition.{Machine, Ending, start, refusal, effect, step, steps, whole-steps, run}
+use Rattle.calculator.specs.Definition.{Ending, start, refusal, effect, step, steps, whole-steps, run}
 
 ending : List ℕ → ℕ → ℕ → Ending
 ending registers done number = record { machine = record { registers = registers; kind = i32; bits = 0 }; done = done; number = number }

@@ -1,13 +1,13 @@
 -- Promise 3, "The choice is never seen": two lists that differ in marks alone end alike. Assumes nothing.
 use mathlib.Core.Path.{_≡_, refl, _∙_, ap, sym}
-use mathlib.Core.List.{List, [], _∷_, _++_}
+use mathlib.Core.List.{List, _∷_, _++_}
 use Prim.Native.Nat.{ℕ, zero, suc, _+_, _/_, _%_, _<_, _≤_}
 use native.Mathlib.Omega.{arith}
 use lib.ListN.{length, getD, take, drop, length-drop}
 use lib.Seq.{getD-take, getD-drop}
 use Rattle.standard.specs.Refusal.{Answer, given, refused}
 use Rattle.standard.specs.Instruction.{Instruction, none, memory, const, shuffled, vector₁, vector₂, vector₃, shifted, tested, splatted, extracted, replaced, instruction}
-use Rattle.calculator.specs.Definition.{Machine, Ending, Profile, bytes, operation, profile, refusal, effect, answer, step, after, steps, run}
+use Rattle.calculator.specs.Definition.{Machine, Ending, bytes, operation, profile, refusal, effect, answer, step, after, steps, run}
 use Rattle.calculator.specs.State.{machine}
 use Rattle.calculator.specs.Run.{ending-of}
 use Rattle.calculator.specs.declared.run.Ending as code

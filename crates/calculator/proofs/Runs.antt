@@ -1,5 +1,5 @@
 -- One turn of a run: a step that is done, and one that is refused. Assumes nothing.
-use mathlib.Core.Path.{_≡_, refl, _∙_, ap}
+use mathlib.Core.Path.{_≡_}
 use mathlib.Core.List.{List}
 use Prim.Native.Nat.{ℕ, suc, _+_, _*_, _-_, _<_}
 use native.Mathlib.Omega.{arith}
@@ -7,7 +7,7 @@ use native.Mathlib.Numerals.{add-one}
 use lib.ListN.{take, drop}
 use lib.Seq.{drop-drop}
 use Rattle.standard.specs.Refusal.{given, refused}
-use Rattle.calculator.specs.Definition.{Machine, Ending, step, steps}
+use Rattle.calculator.specs.Definition.{Machine, step, steps}
 
 module _ (n done : ℕ) (list : List ℕ) (m : Machine) (more : done < n) where
   one-more : n - done ≡ suc (n - (done + 1))

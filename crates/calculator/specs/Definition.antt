@@ -1,6 +1,6 @@
 -- The calculator (document 01, "The calculator (added)"): a step and a run, for every list of bytes and every start, over the standard's table.
 -- In plain numbers: it knows nothing of marks, halves or code.
-use Prim.Native.Nat.{ℕ, zero, suc, _+_, _*_, _/_, _%_}
+use Prim.Native.Nat.{ℕ, zero, suc, _+_, _/_, _%_}
 use mathlib.Core.Bool.{Bool, true, false, cond}
 use mathlib.Core.List.{List, [], _∷_, _++_}
 use lib.ListN.{length, getD, set, take, drop, replicate}
@@ -8,7 +8,7 @@ use lib.Dec.{ltb, leb, eqb}
 use Rattle.standard.specs.Lanes.{joined}
 use Rattle.standard.specs.Vector.{shuffle}
 use Rattle.standard.specs.Refusal.{Answer, given, refused, legal}
-use Rattle.standard.specs.Instruction.{Kind, kind-number, i32, i64, f32, f64, Instruction, none, memory, const, shuffled, vector₁, vector₂, vector₃, shifted, tested, splatted, extracted, replaced, instruction}
+use Rattle.standard.specs.Instruction.{Kind, kind-number, i32, Instruction, none, memory, const, shuffled, vector₁, vector₂, vector₃, shifted, tested, splatted, extracted, replaced, instruction}
 
 -- "State: 16 registers and one scalar. The scalar is an i32, an i64, an f32 or an f64": its kind and its bits.
 pub record Machine : Type 0 where

@@ -3,9 +3,7 @@
 use mathlib.Core.Path.{_≡_}
 use Prim.Native.Nat.{ℕ}
 use native.Mathlib.Omega.{arith}
-use Rattle.standard.specs.Refusal.{Answer, given, refused}
 use Rattle.simd.proofs.Coincide.{Held, vectors-coincide}
-use Rattle.operation.specs.Outcome.{vector, scalar}
 use Rattle.operation.specs.Scalar.{kind-of, bits-of}
 use Rattle.operation.specs.Code.{outcome-of}
 use Rattle.operation.specs.declared.outcome.Outcome.{Outcome}

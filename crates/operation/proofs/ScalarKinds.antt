@@ -10,7 +10,7 @@ use types.Run.{OneOf, miss}
 use denote.Enum.Declared.{tagOf}
 use borrow.Author.Tests.{ne-eqb}
 use Rattle.standard.specs.Instruction.{kind-number}
-use Rattle.standard.specs.Refusal.{Answer, given, refused}
+use Rattle.standard.specs.Refusal.{given, refused}
 use Rattle.operation.specs.Outcome.{mapped}
 use Rattle.operation.specs.Scalar.{kind-of}
 use Rattle.operation.specs.declared.scalar.Scalar.{Scalar}

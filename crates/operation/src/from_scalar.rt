@@ -6,7 +6,7 @@ ghost use lib.Dec.{ltb};
 ghost use Rattle.standard.specs.Integer.{modulo};
 ghost use Rattle.standard.specs.Lanes.{splat, replace};
 ghost use Rattle.standard.specs.Instruction.{i32, i64, f32, f64};
-ghost use Rattle.standard.specs.Refusal.{Answer, refused, lane-first};
+ghost use Rattle.standard.specs.Refusal.{refused, lane-first};
 ghost use Rattle.simd.specs.Number.{number};
 ghost use Rattle.operation.specs.Outcome.{Outcome, vector, at-kind};
 ghost use Rattle.operation.specs.Scalar.{kind-of, bits-of};

@@ -4,8 +4,8 @@ use denote.Ref.{now}
 use borrow.Author.Tests.{ne-eqb}
 use Rattle.standard.specs.Refusal.{given, refused}
 use Rattle.calculator.proofs.Runs.{turn, stop}
-use mathlib.Core.Path.{_≡_, refl, sym, _∙_}
-use Prim.Native.Nat.{_*_, _-_, _≤_, _<_}
+use mathlib.Core.Path.{_≡_, sym, _∙_}
+use Prim.Native.Nat.{_*_, _-_, _≤_}
 use native.Mathlib.Omega.{arith}
 use lib.ListN.{length, take, drop}
 use Rattle.calculator.specs.Definition.{step, steps}
