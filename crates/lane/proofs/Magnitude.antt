@@ -5,13 +5,13 @@ use mathlib.Core.Bool.{Bool, true, false, cond}
 use Prim.Native.Nat.{ℕ, zero, suc, _+_, _-_, _*_, _^_, _<_, _≤_}
 use native.Mathlib.Nat.{mul-le-mul, le-trans, lt-of-lt-of-le, lt-of-le-of-lt}
 use native.Mathlib.Omega.{arith}
-use lib.Dec.{T, ltb, leb, leb→le, lit≤}
+use lib.Dec.{T, ltb, leb, leb→le}
 use lib.Pow.{pow-mono}
 use lib.IntN.{ℤ, pos, negsuc, negℤ, _+ℤ_, _-ℤ_, _*ℤ_}
 use lib.Signed.{mag, shrZ, mag-shr}
 use mir.Syntax.{Width, w16, w32}
 use mir.Val.{Fits, SFits, bits, hbits, toZ, ofZ}
-use mir.ValLaws.{toZ-fits, toZ-pos}
+use mir.ValLaws.{toZ-fits}
 use mir.Facts.{toZ-ofZ}
 use Rattle.standard.specs.Integer.{signed, floor}
 use Rattle.lane.proofs.Signed.{reads}
@@ -116,20 +116,3 @@ module _ (v : Width) (t : T (leb (hbits v) 15)) {a b : ℕ} (f : Fits v a) (g : 
   pub rounded-shift : toZ w32 (ofZ w32 (shrZ (toZ w32 (ofZ w32 (toZ w32 (ofZ w32 (toZ w32 (ofZ w32 r) *ℤ toZ w32 (ofZ w32 s))) +ℤ pos 16384))) (2 ^ 15)))
       ≡ floor (signed (bits v) a *ℤ signed (bits v) b +ℤ pos 16384) 15
   rounded-shift = shift-kept w32 15 (rounded-fits _ _ fits-a fits-b) (rounded-exact .1)
-
--- the sum and the difference of two lanes of at most 16 bits, unsigned
-module _ (v : Width) (t : T (leb (bits v) 16)) {a b : ℕ} (f : Fits v a) (g : Fits v b) where
-  below : (x : ℕ) → Fits v x → x < 2 ^ 16
-  below x h = lt-of-lt-of-le (h .fits) (pow-mono (leb→le (bits v) 16 t))
-
-  as-signed : (x : ℕ) → Fits v x → toZ w32 x ≡ pos x
-  as-signed x h = toZ-pos w32 x (lt-of-lt-of-le (below x h) (lit≤ tt))
-
-  pub sum-unsigned : SFits w32 (toZ w32 a +ℤ toZ w32 b) × (toZ w32 (ofZ w32 (toZ w32 a +ℤ toZ w32 b)) ≡ pos a +ℤ pos b)
-  sum-unsigned =
-      exact w32 _+ℤ_ (as-signed a f) (as-signed b g) (record { sfits = omega (arith, below a f, below b g) })
-
-  pub difference-unsigned : SFits w32 (toZ w32 a -ℤ toZ w32 b) × (toZ w32 (ofZ w32 (toZ w32 a -ℤ toZ w32 b)) ≡ pos a -ℤ pos b)
-  difference-unsigned =
-      exact w32 _-ℤ_ (as-signed a f) (as-signed b g)
-      (record { sfits = omega (arith, below a f, below b g, mag-sum (pos a) (negℤ (pos b)), mag-negation b) })

@@ -2,17 +2,20 @@
 -- Assumes nothing.
 use mathlib.Core.Path.{_≡_, refl, sym, subst⁻¹}
 use mathlib.Core.Bool.{true, false}
-use Prim.Native.Nat.{_-_, _^_}
+use mathlib.Core.Logic.{_⊎_, inl, inr}
+use Prim.Native.Nat.{ℕ, _+_, _-_, _^_, _<_, _≤_}
+use native.Mathlib.Nat.{not-suc-le-zero}
 use native.Mathlib.Omega.{arith}
-use borrow.Author.Tests.{ltb-false}
+use borrow.Author.Tests.{ltb-true, ltb-false, lt-ltb, le-ltb}
 use lib.Dec.{T}
 use lib.Pow.{pow-pos}
-use lib.IntN.{ℤ, pos, negsuc, natAbs}
+use lib.IntN.{ℤ, pos, negsuc, natAbs, _+ℤ_, _-ℤ_}
 use lib.Signed.{ltZ, nonNeg}
 use mir.Syntax.{Width, w8, w16, w32, w64, w128}
 use mir.Val.{Fits, SFits, bits, hbits, toZ, ofZ}
 use mir.Facts.{toZ-ofZ}
 use Rattle.standard.specs.Integer.{modulo, sat-u, sat-s}
+use Rattle.lane.proofs.Signed.{minus-below, minus-above}
 
 half : (v : Width) → bits v - 1 ≡ hbits v
 half w8 = refl
@@ -58,3 +61,33 @@ module _ (v w : Width) (z : ℤ) (f : SFits w z) where
 
     pub s-inside : modulo (bits v) (toZ v (ofZ v (toZ w (ofZ w z)))) ≡ sat-s (bits v) z
     s-inside = rw (rw (toZ-ofZ f) at s, rw (toZ-ofZ f) at t, toZ-ofZ s-casts, toZ-ofZ f)
+
+-- the sum and the difference of two lanes, by a test that asks whether they stay in the range
+module _ (v : Width) {a b : ℕ} (f : Fits v a) (g : Fits v b) where
+  pub sum-inside : a ≤ 2 ^ bits v - 1 - b → a + b ≡ sat-u (bits v) (pos a +ℤ pos b)
+  sum-inside h =
+      let l : b < 2 ^ bits v = g .fits in
+      rw (le-ltb (a + b) 0 (omega arith), le-ltb (2 ^ bits v - 1) (a + b) (omega arith))
+
+  pub sum-past : 2 ^ bits v - 1 - b < a → 2 ^ bits v - 1 ≡ sat-u (bits v) (pos a +ℤ pos b)
+  sum-past h = rw (le-ltb (a + b) 0 (omega arith), lt-ltb (2 ^ bits v - 1) (a + b) (omega arith))
+
+  pub difference-inside : b ≤ a → a - b ≡ sat-u (bits v) (pos a -ℤ pos b)
+  difference-inside h =
+      let l : a < 2 ^ bits v = f .fits in
+      rw (minus-above a b h, le-ltb (a - b) 0 (omega arith), le-ltb (2 ^ bits v - 1) (a - b) (omega arith))
+
+  pub difference-past : a < b → 0 ≡ sat-u (bits v) (pos a -ℤ pos b)
+  difference-past h = rw (minus-below a b h)
+
+-- two clamps, one after the other: y is z or 0, and x is y or the highest number of the lane
+module _ (v w : Width) (z : ℤ) (f : SFits w z) (low : toZ w 0 ≡ pos 0) (high : toZ w (2 ^ bits v - 1) ≡ pos (2 ^ bits v - 1)) where
+  pub clamped : {y x : ℕ}
+      → ((ltZ (toZ w (ofZ w z)) (pos 0) ≡ true) × (y ≡ 0)) ⊎ ((ltZ (toZ w (ofZ w z)) (pos 0) ≡ false) × (y ≡ ofZ w z))
+      → ((ltZ (pos (2 ^ bits v - 1)) (toZ w y) ≡ true) × (x ≡ 2 ^ bits v - 1)) ⊎ ((ltZ (pos (2 ^ bits v - 1)) (toZ w y) ≡ false) × (x ≡ y))
+      → (T (nonNeg (toZ w x)) × Fits v (natAbs (toZ w x))) × (natAbs (toZ w x) ≡ sat-u (bits v) z)
+  clamped (inl p) (inl q) = absurd (not-suc-le-zero (ltb-true (2 ^ bits v - 1) 0 (rw (p .1, low) at (q .0))))
+  clamped (inl p) (inr q) = rw (q .1, p .1, low) ((tt, record { fits = pow-pos (bits v) }), u-below v w z f (p .0))
+  clamped (inr p) (inl q) = rw (q .1, high) ((tt, record { fits = omega (arith, pow-pos (bits v)) }), u-above v w z f (p .0) (rw (p .1) at (q .0)))
+  clamped (inr p) (inr q) =
+      rw (q .1, p .1) (u-casts v w z f (p .0) (rw (p .1) at (q .0)), u-inside v w z f (p .0) (rw (p .1) at (q .0)))

@@ -2,10 +2,10 @@
 -- Assumes nothing.
 use mathlib.Core.Path.{_≡_, refl, sym, ap, _∙_, subst⁻¹}
 use mathlib.Core.Bool.{Bool, true, false, cond}
-use Prim.Native.Nat.{ℕ, suc, _-_, _^_, _<_}
+use Prim.Native.Nat.{ℕ, zero, suc, _-_, _^_, _<_, _≤_}
 use native.Mathlib.Nat.{mod-eq-of-lt, not-suc-le-zero}
 use native.Mathlib.Omega.{arith}
-use borrow.Author.Tests.{lt-ltb, ltb-true}
+use borrow.Author.Tests.{lt-ltb, le-ltb, ltb-true}
 use lib.Dec.{T, ltb}
 use lib.IntN.{ℤ, pos, negsuc, natAbs, _-ℤ_}
 use lib.Signed.{ltZ, nonNeg, mag}
@@ -18,6 +18,11 @@ use Rattle.standard.specs.Integer.{signed, modulo}
 -- x - m is negative where x is below m
 pub minus-below : (x m : ℕ) → x < m → pos x -ℤ pos m ≡ negsuc (m - suc x)
 minus-below x (suc m) h = rw (lt-ltb x (suc m) h)
+
+-- and is the difference where it is not
+pub minus-above : (x m : ℕ) → m ≤ x → pos x -ℤ pos m ≡ pos (x - m)
+minus-above x zero h = ap pos (omega arith)
+minus-above x (suc m) h = rw (le-ltb x (suc m) h)
 
 same : (x full : ℕ) → x < full → (b : Bool) → sel b (pos x) (negsuc (full - suc x)) ≡ cond b (pos x) (pos x -ℤ pos full)
 same x full h true = refl

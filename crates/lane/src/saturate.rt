@@ -13,16 +13,12 @@ pub fn wide8(x: u8) -> i32
     signed8(x) as i32
 }
 
-pub fn sat_u8(z: i32) -> u8
+pub fn sat_u8(z: i16) -> u8
     ensures { λ r. ⌜ r ≡ sat-u 8 z ⌝ }
 {
-    if z < 0 {
-        0
-    } else if 255 < z {
-        255
-    } else {
-        z as u8
-    }
+    let y: i16 = if z < 0 { 0 } else { z };
+    let x: i16 = if 255 < y { 255 } else { y };
+    x as u8
 }
 
 pub fn sat_s8(z: i32) -> u8
@@ -40,7 +36,7 @@ pub fn sat_s8(z: i32) -> u8
 pub fn add_sat_u8(a: u8, b: u8) -> u8
     ensures { λ r. ⌜ r ≡ iadd-sat-u 8 a b ⌝ }
 {
-    sat_u8((a as i32) + (b as i32))
+    if a <= u8::MAX - b { a + b } else { u8::MAX }
 }
 
 pub fn add_sat_s8(a: u8, b: u8) -> u8
@@ -52,7 +48,7 @@ pub fn add_sat_s8(a: u8, b: u8) -> u8
 pub fn sub_sat_u8(a: u8, b: u8) -> u8
     ensures { λ r. ⌜ r ≡ isub-sat-u 8 a b ⌝ }
 {
-    sat_u8((a as i32) - (b as i32))
+    if b <= a { a - b } else { 0 }
 }
 
 pub fn sub_sat_s8(a: u8, b: u8) -> u8
@@ -71,13 +67,9 @@ pub fn wide16(x: u16) -> i32
 pub fn sat_u16(z: i32) -> u16
     ensures { λ r. ⌜ r ≡ sat-u 16 z ⌝ }
 {
-    if z < 0 {
-        0
-    } else if 65535 < z {
-        65535
-    } else {
-        z as u16
-    }
+    let y: i32 = if z < 0 { 0 } else { z };
+    let x: i32 = if 65535 < y { 65535 } else { y };
+    x as u16
 }
 
 pub fn sat_s16(z: i32) -> u16
@@ -95,7 +87,7 @@ pub fn sat_s16(z: i32) -> u16
 pub fn add_sat_u16(a: u16, b: u16) -> u16
     ensures { λ r. ⌜ r ≡ iadd-sat-u 16 a b ⌝ }
 {
-    sat_u16((a as i32) + (b as i32))
+    if a <= u16::MAX - b { a + b } else { u16::MAX }
 }
 
 pub fn add_sat_s16(a: u16, b: u16) -> u16
@@ -107,7 +99,7 @@ pub fn add_sat_s16(a: u16, b: u16) -> u16
 pub fn sub_sat_u16(a: u16, b: u16) -> u16
     ensures { λ r. ⌜ r ≡ isub-sat-u 16 a b ⌝ }
 {
-    sat_u16((a as i32) - (b as i32))
+    if b <= a { a - b } else { 0 }
 }
 
 pub fn sub_sat_s16(a: u16, b: u16) -> u16

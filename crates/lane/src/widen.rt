@@ -84,7 +84,7 @@ pub fn narrow_s16(x: u16) -> u8
 pub fn narrow_u16(x: u16) -> u8
     ensures { λ r. ⌜ r ≡ narrow-u 16 8 x ⌝ }
 {
-    sat_u8(wide16(x))
+    sat_u8(signed16(x))
 }
 
 pub fn narrow_s32(x: u32) -> u16

@@ -18,7 +18,7 @@ ghost use mathlib.Core.Path.{_≡_};
 ghost use mathlib.Core.List.{_++_, _∷_, []};
 ghost use Prim.Native.Nat.{_<_};
 ghost use lib.Ieee.{binary32, binary64};
-ghost use lib.ListN.{take};
+ghost use lib.ListN.{take, replicate};
 ghost use Rattle.standard.specs.Lanes.{digits, joined, lanes, unary, binary, splat, extract, replace};
 ghost use Rattle.standard.specs.Refusal.{at-lane};
 ghost use Rattle.lane.specs.Lanewise.{unaries, unaries8, unaries16, unaries32, binaries, binaries32, unary-of, binary-of};
@@ -140,6 +140,69 @@ fn half32(a: u32, b: u32) -> u64
     (a as u64) + 4294967296 * ((b as u64))
 }
 
+// A loop over lanes runs over 64 places: the lanes, then idle places whose results are dropped. A loop over the 16, 8 or 4 lanes alone is unrolled
+// before the compiler's vectoriser sees it, and is left as some ten shifts and masks a lane; one over 64 is vectorised, and its idle turns vanish
+// (docs/DECISIONS.md, "Idle places"). Here: the lanes with the idle places after them, and back.
+fn pad8(s: [u8; 16]) -> [u8; 64]
+    ensures { λ r. ⌜ r ≡ s ++ replicate 48 0 ⌝ }
+{
+    let mut r = [0; 64];
+    for i in 0..16 {
+        r[i] = s[i];
+    }
+    r
+}
+
+fn cut8(s: [u8; 64]) -> [u8; 16]
+    ensures { λ r. ⌜ r ≡ take 16 s ⌝ }
+{
+    let mut r = [0; 16];
+    for i in 0..16 {
+        r[i] = s[i];
+    }
+    r
+}
+
+fn pad16(s: [u16; 8]) -> [u16; 64]
+    ensures { λ r. ⌜ r ≡ s ++ replicate 56 0 ⌝ }
+{
+    let mut r = [0; 64];
+    for i in 0..8 {
+        r[i] = s[i];
+    }
+    r
+}
+
+fn cut16(s: [u16; 64]) -> [u16; 8]
+    ensures { λ r. ⌜ r ≡ take 8 s ⌝ }
+{
+    let mut r = [0; 8];
+    for i in 0..8 {
+        r[i] = s[i];
+    }
+    r
+}
+
+fn pad32(s: [u32; 4]) -> [u32; 64]
+    ensures { λ r. ⌜ r ≡ s ++ replicate 60 0 ⌝ }
+{
+    let mut r = [0; 64];
+    for i in 0..4 {
+        r[i] = s[i];
+    }
+    r
+}
+
+fn cut32(s: [u32; 64]) -> [u32; 4]
+    ensures { λ r. ⌜ r ≡ take 4 s ⌝ }
+{
+    let mut r = [0; 4];
+    for i in 0..4 {
+        r[i] = s[i];
+    }
+    r
+}
+
 impl V128 {
     // The sixteen bytes, byte 0 first, and a vector of them.
     pub fn lanes8(self) -> [u8; 16]
@@ -160,22 +223,22 @@ impl V128 {
     fn unary8(self, op: u8, count: u32) -> V128
         ensures { λ r. ⌜ number r ≡ unary 8 (unary-of (unaries8 count) op) (number self) ⌝ }
     {
-        let mut a = self.lanes8();
-        for i in 0..16 {
+        let mut a = pad8(self.lanes8());
+        for i in 0..64 {
             a[i] = lane::lanewise::unary8(op, count, a[i]);
         }
-        V128::join8(a)
+        V128::join8(cut8(a))
     }
 
     fn binary8(self, rhs: V128, op: u8) -> V128
         ensures { λ r. ⌜ number r ≡ binary 8 (binary-of (take 22 (binaries 8)) op) (number self) (number rhs) ⌝ }
     {
-        let mut a = self.lanes8();
-        let b = rhs.lanes8();
-        for i in 0..16 {
+        let mut a = pad8(self.lanes8());
+        let b = pad8(rhs.lanes8());
+        for i in 0..64 {
             a[i] = lane::lanewise::binary8(op, a[i], b[i]);
         }
-        V128::join8(a)
+        V128::join8(cut8(a))
     }
 
     fn lanes16(self) -> [u16; 8]
@@ -196,22 +259,22 @@ impl V128 {
     fn unary16(self, op: u8, count: u32) -> V128
         ensures { λ r. ⌜ number r ≡ unary 16 (unary-of (unaries16 count) op) (number self) ⌝ }
     {
-        let mut a = self.lanes16();
-        for i in 0..8 {
+        let mut a = pad16(self.lanes16());
+        for i in 0..64 {
             a[i] = lane::lanewise::unary16(op, count, a[i]);
         }
-        V128::join16(a)
+        V128::join16(cut16(a))
     }
 
     fn binary16(self, rhs: V128, op: u8) -> V128
         ensures { λ r. ⌜ number r ≡ binary 16 (binary-of (binaries 16) op) (number self) (number rhs) ⌝ }
     {
-        let mut a = self.lanes16();
-        let b = rhs.lanes16();
-        for i in 0..8 {
+        let mut a = pad16(self.lanes16());
+        let b = pad16(rhs.lanes16());
+        for i in 0..64 {
             a[i] = lane::lanewise::binary16(op, a[i], b[i]);
         }
-        V128::join16(a)
+        V128::join16(cut16(a))
     }
 
     fn lanes32(self) -> [u32; 4]
@@ -232,43 +295,43 @@ impl V128 {
     fn unary32(self, op: u8, count: u32) -> V128
         ensures { λ r. ⌜ number r ≡ unary 32 (unary-of (unaries32 count) op) (number self) ⌝ }
     {
-        let mut a = self.lanes32();
-        for i in 0..4 {
+        let mut a = pad32(self.lanes32());
+        for i in 0..64 {
             a[i] = lane::lanewise::unary32(op, count, a[i]);
         }
-        V128::join32(a)
+        V128::join32(cut32(a))
     }
 
     fn binary32(self, rhs: V128, op: u8) -> V128
         ensures { λ r. ⌜ number r ≡ binary 32 (binary-of binaries32 op) (number self) (number rhs) ⌝ }
     {
-        let mut a = self.lanes32();
-        let b = rhs.lanes32();
-        for i in 0..4 {
+        let mut a = pad32(self.lanes32());
+        let b = pad32(rhs.lanes32());
+        for i in 0..64 {
             a[i] = lane::lanewise::binary32(op, a[i], b[i]);
         }
-        V128::join32(a)
+        V128::join32(cut32(a))
     }
 
     fn float_unary32(self, op: u8) -> V128
         ensures { λ r. ⌜ number r ≡ unary 32 (float-unary-of binary32 op) (number self) ⌝ }
     {
-        let mut a = self.lanes32();
-        for i in 0..4 {
+        let mut a = pad32(self.lanes32());
+        for i in 0..64 {
             a[i] = lane::lanewise_float::float_unary32(op, a[i]);
         }
-        V128::join32(a)
+        V128::join32(cut32(a))
     }
 
     fn float_binary32(self, rhs: V128, op: u8) -> V128
         ensures { λ r. ⌜ number r ≡ binary 32 (float-binary-of binary32 op) (number self) (number rhs) ⌝ }
     {
-        let mut a = self.lanes32();
-        let b = rhs.lanes32();
-        for i in 0..4 {
+        let mut a = pad32(self.lanes32());
+        let b = pad32(rhs.lanes32());
+        for i in 0..64 {
             a[i] = lane::lanewise_float::float_binary32(op, a[i], b[i]);
         }
-        V128::join32(a)
+        V128::join32(cut32(a))
     }
 
     fn splat8(x: u8) -> V128

@@ -9,74 +9,44 @@ ghost use Rattle.lane.specs.Widen.{extends, narrows};
 ghost use Rattle.simd.specs.Number.{number};
 ghost use Rattle.simd.specs.Select.{half-of};
 use crate::V128;
+use crate::cut8;
+use crate::cut16;
+use crate::cut32;
 use crate::half8;
 use crate::half16;
-use lane::lanewise::DOT;
+use crate::pad8;
+use crate::pad16;
+use crate::pad32;
 use lane::lanewise::EXTADD_S;
 use lane::lanewise::EXTADD_U;
+use lane::widen::dot32;
 use lane::widen::extend8;
 use lane::widen::extend16;
 use lane::widen::extend32;
 use lane::widen::narrow16;
 use lane::widen::narrow32;
 
-fn bytes(x: u64) -> [u8; 8]
-    ensures { λ r. ⌜ r ≡ digits 8 8 x ⌝ }
-{
-    let x1 = x / 256;
-    let x2 = x1 / 256;
-    let x3 = x2 / 256;
-    let x4 = x3 / 256;
-    let x5 = x4 / 256;
-    let x6 = x5 / 256;
-    let x7 = x6 / 256;
-    [
-        (x % 256) as u8,
-        (x1 % 256) as u8,
-        (x2 % 256) as u8,
-        (x3 % 256) as u8,
-        (x4 % 256) as u8,
-        (x5 % 256) as u8,
-        (x6 % 256) as u8,
-        (x7 % 256) as u8,
-    ]
-}
-
-fn shorts(x: u64) -> [u16; 4]
-    ensures { λ r. ⌜ r ≡ digits 16 4 x ⌝ }
-{
-    let x1 = x / 65536;
-    let x2 = x1 / 65536;
-    let x3 = x2 / 65536;
-    [
-        (x % 65536) as u16,
-        (x1 % 65536) as u16,
-        (x2 % 65536) as u16,
-        (x3 % 65536) as u16,
-    ]
-}
-
 impl V128 {
     fn widen8(bits: u64, signed: bool) -> V128
         ensures { λ r. ⌜ number r ≡ widen (extends signed) 8 bits ⌝ }
     {
-        let a = bytes(bits);
-        let mut out = [0u16; 8];
-        for i in 0..8 {
+        let a = pad8(V128 { lo: bits, hi: 0 }.lanes8());
+        let mut out = [0u16; 64];
+        for i in 0..64 {
             out[i] = extend8(signed, a[i]);
         }
-        V128::join16(out)
+        V128::join16(cut16(out))
     }
 
     fn widen16(bits: u64, signed: bool) -> V128
         ensures { λ r. ⌜ number r ≡ widen (extends signed) 16 bits ⌝ }
     {
-        let a = shorts(bits);
-        let mut out = [0u32; 4];
-        for i in 0..4 {
+        let a = pad16(V128 { lo: bits, hi: 0 }.lanes16());
+        let mut out = [0u32; 64];
+        for i in 0..64 {
             out[i] = extend16(signed, a[i]);
         }
-        V128::join32(out)
+        V128::join32(cut32(out))
     }
 
     fn widen32(bits: u64, signed: bool) -> V128
@@ -143,11 +113,12 @@ impl V128 {
     fn narrowed16(self, signed: bool) -> u64
         ensures { λ r. ⌜ r ≡ joined 8 (map (narrows signed 16 8) (lanes 16 (number self))) ⌝ }
     {
-        let a = self.lanes16();
-        let mut out = [0u8; 8];
-        for i in 0..8 {
-            out[i] = narrow16(signed, a[i]);
+        let a = pad16(self.lanes16());
+        let mut wide = [0u8; 64];
+        for i in 0..64 {
+            wide[i] = narrow16(signed, a[i]);
         }
+        let out = cut8(wide);
         half8(
             out[0],
             out[1],
@@ -173,11 +144,12 @@ impl V128 {
     fn narrowed32(self, signed: bool) -> u64
         ensures { λ r. ⌜ r ≡ joined 16 (map (narrows signed 32 16) (lanes 32 (number self))) ⌝ }
     {
-        let a = self.lanes32();
-        let mut out = [0u16; 4];
-        for i in 0..4 {
-            out[i] = narrow32(signed, a[i]);
+        let a = pad32(self.lanes32());
+        let mut wide = [0u16; 64];
+        for i in 0..64 {
+            wide[i] = narrow32(signed, a[i]);
         }
+        let out = cut16(wide);
         half16(out[0], out[1], out[2], out[3])
     }
 
@@ -361,7 +333,12 @@ impl V128 {
     pub fn i32x4_dot_i16x8_s(self, rhs: V128) -> V128
         ensures { λ r. ⌜ number r ≡ dot (number self) (number rhs) ⌝ }
     {
-        self.binary32(rhs, DOT)
+        let mut a = pad32(self.lanes32());
+        let b = pad32(rhs.lanes32());
+        for i in 0..32 {
+            a[i] = dot32(a[i], b[i]);
+        }
+        V128::join32(cut32(a))
     }
 
     pub fn i8x16_narrow_i16x8_s(self, high: V128) -> V128

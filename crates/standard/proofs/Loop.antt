@@ -1,11 +1,11 @@
 -- One law for every loop that applies a lane function at each place: `a[i] = f(a[i], b[i])`, for i from 0 up.
 -- Assumes nothing.
 use mathlib.Core.Path.{_≡_, refl, sym, ap, ap₂, _∙_, subst⁻¹}
-use mathlib.Core.List.{List, [], _∷_, map}
-use Prim.Native.Nat.{ℕ, zero, suc, _+_, _/_, _<_}
-use native.Mathlib.Nat.{not-suc-le-zero, le-of-suc-le-suc, suc-inj, suc-ne-zero}
+use mathlib.Core.List.{List, [], _∷_, _++_, map}
+use Prim.Native.Nat.{ℕ, zero, suc, _+_, _/_, _<_, _≤_}
+use native.Mathlib.Nat.{not-suc-le-zero, le-of-suc-le-suc, lt-of-lt-of-le, suc-inj, suc-ne-zero}
 use native.Mathlib.Numerals.{add-one}
-use lib.ListN.{length, getD, set}
+use lib.ListN.{length, getD, set, take, drop, replicate, length-append, length-replicate}
 use Rattle.standard.specs.Lanes.{joined, lanes, zip, unary, binary}
 use Rattle.standard.proofs.Digits.{length-digits}
 
@@ -42,16 +42,32 @@ zip-map f (x ∷ xs) = ap (λ (r : List ℕ). f x ∷ r) (zip-map f xs)
 count : (w x : ℕ) {xs : List ℕ} → xs ≡ lanes w x → length xs ≡ 128 / w
 count w x e = ap length e ∙ length-digits w (128 / w) x
 
--- A loop over the lanes of two vectors: a turn of it, and what is joined after the last.
-module _ (w : ℕ) (f : ℕ → ℕ → ℕ) (x y : ℕ) {xs ys : List ℕ} (ex : xs ≡ lanes w x) (ey : ys ≡ lanes w y) where
-  pub turn : {i r : ℕ} {a : List ℕ} → i < 128 / w → a ≡ zipTo f i xs ys → r ≡ f (getD a i 0) (getD ys i 0) → set a i r ≡ zipTo f (i + 1) xs ys
-  turn {i} h ea er =
-      rw (er, ea, add-one) (zipTo-turn f i xs ys (subst⁻¹ (λ (n : ℕ). i < n) (count w x ex) h) (subst⁻¹ (λ (n : ℕ). i < n) (count w y ey) h))
+-- of lists with idle places after them, the lanes, once the loop is past them
+zipTo-front : (f : ℕ → ℕ → ℕ) (i : ℕ) (xs ys u v : List ℕ) → length xs ≡ length ys → length xs ≤ i → take (length xs) (zipTo f i (xs ++ u) (ys ++ v)) ≡ zip f xs ys
+zipTo-front f i [] ys u v e h = refl
+zipTo-front f i (x ∷ xs) [] u v e h = absurd (suc-ne-zero (length xs) e)
+zipTo-front f zero (x ∷ xs) (y ∷ ys) u v e h = absurd (not-suc-le-zero h)
+zipTo-front f (suc i) (x ∷ xs) (y ∷ ys) u v e h = ap (λ (r : List ℕ). f x y ∷ r) (zipTo-front f i xs ys u v (suc-inj e) (le-of-suc-le-suc h))
 
-  pub done : (i : ℕ) {a : List ℕ} → i ≡ 128 / w → a ≡ zipTo f i xs ys → joined w a ≡ binary w f x y
+-- the lanes and the m idle places
+pub places : (w m c x : ℕ) {s xs : List ℕ} → s ≡ lanes w x → xs ≡ s ++ replicate m c → length xs ≡ 128 / w + m
+places w m c x {s} es ex = ap length ex ∙ length-append s (replicate m c) ∙ ap₂ _+_ (count w x es) (length-replicate m c)
+
+-- A loop over the lanes of two vectors and the m idle places after them: a turn of it, and what is joined of the lanes once it is past them.
+module _ (w m : ℕ) (f : ℕ → ℕ → ℕ) (x y : ℕ) {s t xs ys : List ℕ}
+    (es : s ≡ lanes w x) (et : t ≡ lanes w y) (ex : xs ≡ s ++ replicate m 0) (ey : ys ≡ t ++ replicate m 0) where
+  pub turn : {i r : ℕ} {a : List ℕ} → i < 128 / w + m → a ≡ zipTo f i xs ys → r ≡ f (getD a i 0) (getD ys i 0) → set a i r ≡ zipTo f (i + 1) xs ys
+  turn {i} h ea er =
+      rw (er, ea, add-one) (zipTo-turn f i xs ys (subst⁻¹ (λ (n : ℕ). i < n) (places w m 0 x es ex) h) (subst⁻¹ (λ (n : ℕ). i < n) (places w m 0 y et ey) h))
+
+  pub done : (i : ℕ) {a b : List ℕ} → 128 / w ≤ i → a ≡ zipTo f i xs ys → b ≡ take (128 / w) a → joined w b ≡ binary w f x y
   unfolding binary
-  done i ei ea =
-      ap (joined w) (ea ∙ ap (λ (n : ℕ). zipTo f n xs ys) (ei ∙ sym (count w x ex)) ∙ zipTo-all f xs ys (count w x ex ∙ sym (count w y ey)) ∙ ap₂ (zip f) ex ey)
+  done i h ea eb =
+      ap (joined w)
+      (eb ∙ ap (take (128 / w)) (ea ∙ ap₂ (zipTo f i) ex ey)
+      ∙ ap (λ (n : ℕ). take n (zipTo f i (s ++ replicate m 0) (t ++ replicate m 0))) (sym (count w x es))
+      ∙ zipTo-front f i s t (replicate m 0) (replicate m 0) (count w x es ∙ sym (count w y et)) (subst⁻¹ (λ (n : ℕ). n ≤ i) (count w x es) h)
+      ∙ ap₂ (zip f) es et)
 
 -- a loop over one vector: the second operand is not looked at
 pub one-list : (w : ℕ) (f : ℕ → ℕ) (x : ℕ) → binary w (λ i j. f i) x x ≡ unary w f x
@@ -73,3 +89,17 @@ module _ (n : ℕ) (f : ℕ → ℕ) (zs ys : List ℕ) (lz : length zs ≡ n) (
   pub filled : (i : ℕ) {a : List ℕ} → i ≡ n → a ≡ zipTo (λ x y. f y) i zs ys → a ≡ map f ys
   filled i ei ea =
       ea ∙ ap (λ (k : ℕ). zipTo (λ x y. f y) k zs ys) (ei ∙ sym lz) ∙ zipTo-all (λ x y. f y) zs ys (lz ∙ sym ly) ∙ zip-fill f zs ys (lz ∙ sym ly)
+
+-- A loop that copies the first n elements: `a[i] = s[i]`.
+copied : (n : ℕ) (zs ys : List ℕ) → n ≤ length zs → n ≤ length ys → zipTo (λ x y. y) n zs ys ≡ take n ys ++ drop n zs
+copied zero zs ys hz hy = refl
+copied (suc n) [] ys hz hy = absurd (not-suc-le-zero hz)
+copied (suc n) (z ∷ zs) [] hz hy = absurd (not-suc-le-zero hy)
+copied (suc n) (z ∷ zs) (y ∷ ys) hz hy = ap (λ (r : List ℕ). y ∷ r) (copied n zs ys (le-of-suc-le-suc hz) (le-of-suc-le-suc hy))
+
+module _ (n : ℕ) (zs ys : List ℕ) (lz : n ≤ length zs) (ly : n ≤ length ys) where
+  pub copy-turn : {i : ℕ} {a : List ℕ} → i < n → a ≡ zipTo (λ x y. y) i zs ys → set a i (getD ys i 0) ≡ zipTo (λ x y. y) (i + 1) zs ys
+  copy-turn {i} h ea = rw (ea, add-one) (zipTo-turn (λ x y. y) i zs ys (lt-of-lt-of-le h lz) (lt-of-lt-of-le h ly))
+
+  pub copy-done : (i : ℕ) {a : List ℕ} → i ≡ n → a ≡ zipTo (λ x y. y) i zs ys → a ≡ take n ys ++ drop n zs
+  copy-done i ei ea = ea ∙ ap (λ (k : ℕ). zipTo (λ x y. y) k zs ys) ei ∙ copied n zs ys lz ly

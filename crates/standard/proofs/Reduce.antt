@@ -2,8 +2,8 @@
 -- Assumes nothing.
 use mathlib.Core.Path.{_≡_, refl, sym, ap, ap₂, _∙_}
 use mathlib.Core.Bool.{Bool, true, false, cond, not, _&&_}
-use mathlib.Core.List.{List, [], _∷_, map}
-use Prim.Native.Nat.{ℕ, _+_, _-_, _*_, _/_, _^_, _<_, _≤_}
+use mathlib.Core.List.{List, [], _∷_, _++_, map}
+use Prim.Native.Nat.{ℕ, zero, suc, _+_, _-_, _*_, _/_, _^_, _<_, _≤_}
 use native.Mathlib.Nat.{add-zero, add-comm, one-mul, lt-of-lt-of-le, le-of-eq}
 use native.Mathlib.Numerals.{add-one}
 use native.Mathlib.Omega.{arith}
@@ -11,7 +11,7 @@ use borrow.Author.Tests.{eq-eqb, ne-eqb, eqb-true, eqb-false}
 use lib.Arith.{le-zero}
 use lib.Dec.{eqb, lit<}
 use lib.Pow.{pow-mono}
-use lib.ListN.{length, getD, drop, length-drop, length-map, drop-of-length-le}
+use lib.ListN.{length, getD, drop, length-drop, length-map, drop-of-length-le, replicate}
 use lib.Seq.{drop-cons}
 use lib.Signed.{nonNeg}
 use Rattle.standard.specs.Lanes.{joined, lanes}
@@ -19,6 +19,7 @@ use Rattle.standard.specs.Integer.{signed}
 use Rattle.standard.specs.Vector.{no-zero, any-true, all-true, bitmask}
 use Rattle.standard.proofs.Access.{two-lanes}
 use Rattle.standard.proofs.Digits.{Below, length-digits, joined-lt}
+use Rattle.standard.proofs.Loop.{places}
 
 -- the list from place i on, taken apart
 pub next : (xs : List ℕ) (i : ℕ) → i < length xs → drop i xs ≡ getD xs i 0 ∷ drop (i + 1) xs
@@ -42,22 +43,30 @@ signs-below : (w : ℕ) (xs : List ℕ) → Below 2 (map (sign-of w) xs)
 signs-below w [] = tt
 signs-below w (x ∷ xs) = (sign-small (nonNeg (signed w x)) refl, signs-below w xs)
 
--- Loops over the lanes of a vector.
-module _ (w x : ℕ) {xs : List ℕ} (ex : xs ≡ lanes w x) where
-  count : length xs ≡ 128 / w
-  count = ap length ex ∙ length-digits w (128 / w) x
+-- ones after a list leave its test as it is
+no-zero-ones : (m : ℕ) (xs : List ℕ) → no-zero (xs ++ replicate m 1) ≡ no-zero xs
+no-zero-ones zero [] = refl
+no-zero-ones (suc m) [] = no-zero-ones m []
+no-zero-ones m (x ∷ xs) = ap (cond (eqb x 0) 0) (no-zero-ones m xs)
 
-  -- all-true, from the low lane up: what is known after i lanes, one lane more, and the end
-  pub all-turn : (i : ℕ) (ok : Bool) → i < 128 / w → cond ok (no-zero (drop i xs)) 0 ≡ no-zero xs
+-- all-true over the lanes and m ones after them, from the low lane up: what is known after i places, one place more, and the end
+module _ (w m x : ℕ) {s xs : List ℕ} (es : s ≡ lanes w x) (ex : xs ≡ s ++ replicate m 1) where
+  pub all-turn : (i : ℕ) (ok : Bool) → i < 128 / w + m → cond ok (no-zero (drop i xs)) 0 ≡ no-zero xs
       → cond (ok && not (eqb (getD xs i 0) 0)) (no-zero (drop (i + 1) xs)) 0 ≡ no-zero xs
   all-turn i ok h e =
       sym (both ok (eqb (getD xs i 0) 0) (no-zero (drop (i + 1) xs)))
-      ∙ ap (λ (ys : List ℕ). cond ok (no-zero ys) 0) (sym (next xs i (rw count h))) ∙ e
+      ∙ ap (λ (ys : List ℕ). cond ok (no-zero ys) 0) (sym (next xs i (rw (places w m 1 x es ex) h))) ∙ e
 
-  pub all-end : (i : ℕ) (ok : Bool) → i ≡ 128 / w → cond ok (no-zero (drop i xs)) 0 ≡ no-zero xs → cond ok 1 0 ≡ all-true w x
+  pub all-end : (i : ℕ) (ok : Bool) → i ≡ 128 / w + m → cond ok (no-zero (drop i xs)) 0 ≡ no-zero xs → cond ok 1 0 ≡ all-true w x
   unfolding all-true
   all-end i ok h e =
-      ap (λ (ys : List ℕ). cond ok (no-zero ys) 0) (sym (drop-of-length-le xs {i = i} (le-of-eq (count ∙ sym h)))) ∙ e ∙ ap no-zero ex
+      ap (λ (ys : List ℕ). cond ok (no-zero ys) 0) (sym (drop-of-length-le xs {i = i} (le-of-eq (places w m 1 x es ex ∙ sym h))))
+      ∙ e ∙ ap no-zero ex ∙ no-zero-ones m s ∙ ap no-zero es
+
+-- A loop over the lanes of a vector.
+module _ (w x : ℕ) {xs : List ℕ} (ex : xs ≡ lanes w x) where
+  count : length xs ≡ 128 / w
+  count = ap length ex ∙ length-digits w (128 / w) x
 
   -- bitmask, from the top lane down: no lane yet, one lane more at the low end, and the end
   pub mask-start : 0 ≡ joined 1 (map (sign-of w) (drop (128 / w) xs))

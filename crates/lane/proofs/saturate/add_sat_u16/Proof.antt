@@ -1,26 +1,21 @@
--- `lane::saturate::add_sat_u16` meets its contract: the exact result fits in 32 bits. Assumes nothing.
+-- `lane::saturate::add_sat_u16` meets its contract: the test says whether the sum stays in the range. Assumes nothing.
 use borrow.Author.Needs.{needs}
-use mathlib.Core.Path.{ap, _∙_}
 use mir.Syntax.{w16}
-use Rattle.standard.specs.Integer.{sat-u}
-use Rattle.lane.proofs.Magnitude.{sum-unsigned}
+use Rattle.lane.proofs.Saturation.{sum-inside, sum-past}
 use Rattle.lane.proofs.saturate.add_sat_u16.Statement.{statement}
 use Rattle.lane.proofs.saturate.add_sat_u16.Tie as tie
 
-cast-sat-u16 : tie.Need-cast-sat-u16
-cast-sat-u16 c = search needs
+sub-if1 : tie.Need-sub-if1
+sub-if1 c = search needs
 
-cast-sat-u16-2 : tie.Need-cast-sat-u16-2
-cast-sat-u16-2 c = search needs
-
-add-sat-u16 : tie.Need-add-sat-u16
-add-sat-u16 c = sum-unsigned w16 tt (c .fits .a) (c .fits .b) .0
-
-sat-u16-requires : tie.Need-sat-u16-requires
-sat-u16-requires c κs = search needs
+add-result : tie.Need-add-result
+add-result c = search needs
 
 returns : tie.Need-returns
-returns c = c .sat-u16 .ensures ∙ ap (sat-u 16) (sum-unsigned w16 tt (c .before .fits .a) (c .before .fits .b) .1)
+returns c = sum-inside w16 (c .before .fits .a) (c .before .fits .b) (search needs)
+
+returns-2 : tie.Need-returns-2
+returns-2 c = sum-past w16 (c .before .fits .a) (c .before .fits .b) (search needs)
 
 pub add-sat-u16-spec : {M : Type 1} → statement M
-add-sat-u16-spec = tie.close (tie.spec cast-sat-u16 cast-sat-u16-2 add-sat-u16 sat-u16-requires returns)
+add-sat-u16-spec = tie.close (tie.spec sub-if1 add-result returns returns-2)

@@ -1,20 +1,24 @@
--- `lane::saturate::sat_u16` meets its contract, by the laws of saturation at 16 bits. Assumes nothing.
+-- `lane::saturate::sat_u16` meets its contract: two clamps. Assumes nothing.
+use mathlib.Core.Logic.{⊎-elim, inl, inr}
+use mathlib.Core.Path.{refl}
 use mir.Syntax.{w16, w32}
-use Rattle.lane.proofs.Saturation.{u-below, u-above, u-casts, u-inside}
+use Rattle.lane.proofs.Saturation.{clamped}
 use Rattle.lane.proofs.saturate.sat_u16.Statement.{statement}
 use Rattle.lane.proofs.saturate.sat_u16.Tie as tie
 
 cast-result : tie.Need-cast-result
-cast-result c = u-casts w16 w32 _ (c .before .before .fits .z) (c .before .if1 .left) (c .if2 .left)
+cast-result c =
+    clamped w16 w32 _ (c .before .before .fits .z) refl refl
+    (⊎-elim (λ p. inl (p .0 .taken, p .1)) (λ p. inr (p .0 .left, p .1)) (c .before .if1 .came))
+    (⊎-elim (λ p. inl (p .0 .taken, p .1)) (λ p. inr (p .0 .left, p .1)) (c .if2 .came))
+    .0
 
 returns : tie.Need-returns
-returns c = u-below w16 w32 _ (c .before .fits .z) (c .if1 .taken)
-
-returns-2 : tie.Need-returns-2
-returns-2 c = u-above w16 w32 _ (c .before .before .fits .z) (c .before .if1 .left) (c .if2 .taken)
-
-returns-3 : tie.Need-returns-3
-returns-3 c = u-inside w16 w32 _ (c .before .before .fits .z) (c .before .if1 .left) (c .if2 .left)
+returns c =
+    clamped w16 w32 _ (c .before .before .fits .z) refl refl
+    (⊎-elim (λ p. inl (p .0 .taken, p .1)) (λ p. inr (p .0 .left, p .1)) (c .before .if1 .came))
+    (⊎-elim (λ p. inl (p .0 .taken, p .1)) (λ p. inr (p .0 .left, p .1)) (c .if2 .came))
+    .1
 
 pub sat-u16-spec : {M : Type 1} → statement M
-sat-u16-spec = tie.close (tie.spec cast-result returns returns-2 returns-3)
+sat-u16-spec = tie.close (tie.spec cast-result returns)

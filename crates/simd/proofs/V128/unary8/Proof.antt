@@ -1,4 +1,4 @@
--- `simd::V128::unary8` meets its contract: a loop over the lanes. Assumes nothing.
+-- `simd::V128::unary8` meets its contract: a loop over the lanes and the idle places. Assumes nothing.
 use borrow.Author.Needs.{needs}
 use Prim.Native.Nat.{_≤_, _-_}
 use mathlib.Core.Path.{_≡_, refl, _∙_}
@@ -8,13 +8,16 @@ use Rattle.simd.proofs.V128.unary8.Statement.{statement}
 use Rattle.simd.proofs.V128.unary8.Tie as tie
 
 abbrev Inv-loop : tie.InvT-loop
-Inv-loop op count a₀ i₀ a i = (i ≤ 16) × (a ≡ zipTo (λ x y. unary-of (unaries8 count) op x) i a₀ a₀)
+Inv-loop op count a₀ i₀ a i = (i ≤ 64) × (a ≡ zipTo (λ x y. unary-of (unaries8 count) op x) i a₀ a₀)
 
 abbrev μ-loop : tie.MeasureT-loop
-μ-loop op count a₀ i₀ a i = 16 - i
+μ-loop op count a₀ i₀ a i = 64 - i
 
 lanes8-requires : tie.Need-lanes8-requires Inv-loop μ-loop
 lanes8-requires c κs = search needs
+
+pad8-requires : tie.Need-pad8-requires Inv-loop μ-loop
+pad8-requires c κs = search needs
 
 loop-holds : tie.Need-loop-holds Inv-loop μ-loop
 loop-holds c = (search needs, refl)
@@ -35,13 +38,16 @@ loop-less : tie.Need-loop-less Inv-loop μ-loop
 loop-less c = search needs
 
 loop-again : tie.Need-loop-again Inv-loop μ-loop
-loop-again c = (search needs, turn 8 _ _ _ (c .before .before .before .lanes8 .ensures) (c .before .before .before .lanes8 .ensures) (search needs) (c .before .before .loop .inv .1) (c .unary8 .ensures))
+loop-again c = (search needs, turn 8 48 _ _ _ (c .before .before .before .before .lanes8 .ensures) (c .before .before .before .before .lanes8 .ensures) (c .before .before .before .pad8 .ensures) (c .before .before .before .pad8 .ensures) (search needs) (c .before .before .loop .inv .1) (c .unary8 .ensures))
+
+cut8-requires : tie.Need-cut8-requires Inv-loop μ-loop
+cut8-requires c κs = search needs
 
 join8-requires : tie.Need-join8-requires Inv-loop μ-loop
 join8-requires c κs = search needs
 
 returns : tie.Need-returns Inv-loop μ-loop
-returns c = c .join8 .ensures ∙ done 8 _ _ _ (c .before .before .before .lanes8 .ensures) (c .before .before .before .lanes8 .ensures) (c .before .before .loop .i) (search needs) (c .before .before .loop .inv .1) ∙ one-list 8 _ _
+returns c = c .join8 .ensures ∙ done 8 48 _ _ _ (c .before .before .before .before .before .lanes8 .ensures) (c .before .before .before .before .before .lanes8 .ensures) (c .before .before .before .before .pad8 .ensures) (c .before .before .before .before .pad8 .ensures) (c .before .before .before .loop .i) (search needs) (c .before .before .before .loop .inv .1) (c .before .cut8 .ensures) ∙ one-list 8 _ _
 
 pub unary8-spec : {M : Type 1} → statement M
-unary8-spec = tie.close (tie.spec Inv-loop μ-loop lanes8-requires loop-holds array-read-unary8 unary8-requires array-write-a add-i loop-less loop-again join8-requires returns)
+unary8-spec = tie.close (tie.spec Inv-loop μ-loop lanes8-requires pad8-requires loop-holds array-read-unary8 unary8-requires array-write-a add-i loop-less loop-again cut8-requires join8-requires returns)

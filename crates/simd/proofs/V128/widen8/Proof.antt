@@ -1,23 +1,28 @@
 -- `simd::V128::widen8` meets its contract: a loop that fills the wide lanes. Assumes nothing.
 use borrow.Author.Needs.{needs}
-use Prim.Native.Nat.{_≤_, _-_}
+use Prim.Native.Nat.{ℕ, _≤_, _-_}
 use mathlib.Core.Path.{_≡_, refl, ap, _∙_}
-use lib.ListN.{length}
+use mathlib.Core.List.{List, _++_, map}
+use lib.ListN.{replicate, take}
 use Rattle.standard.specs.Lanes.{joined}
-use Rattle.standard.proofs.Loop.{zipTo, fill-turn, filled}
+use Rattle.standard.proofs.Halves.{lanes-halves}
+use Rattle.standard.proofs.Loop.{zipTo, places, fill-turn, filled}
 use Rattle.standard.proofs.Widths.{widened}
 use Rattle.lane.specs.Widen.{extends}
 use Rattle.simd.proofs.V128.widen8.Statement.{statement}
 use Rattle.simd.proofs.V128.widen8.Tie as tie
 
 abbrev Inv-loop : tie.InvT-loop
-Inv-loop bits signed a out₀ i₀ out i = (i ≤ 8) × (out ≡ zipTo (λ x y. extends signed 8 16 y) i out₀ a)
+Inv-loop bits signed a out₀ i₀ out i = (i ≤ 64) × (out ≡ zipTo (λ x y. extends signed 8 16 y) i out₀ a)
 
 abbrev μ-loop : tie.MeasureT-loop
-μ-loop bits signed a out₀ i₀ out i = 8 - i
+μ-loop bits signed a out₀ i₀ out i = 64 - i
 
-bytes-requires : tie.Need-bytes-requires Inv-loop μ-loop
-bytes-requires c κs = search needs
+lanes8-requires : tie.Need-lanes8-requires Inv-loop μ-loop
+lanes8-requires c κs = search needs
+
+pad8-requires : tie.Need-pad8-requires Inv-loop μ-loop
+pad8-requires c κs = search needs
 
 loop-holds : tie.Need-loop-holds Inv-loop μ-loop
 loop-holds c = (search needs, refl)
@@ -41,13 +46,20 @@ loop-less : tie.Need-loop-less Inv-loop μ-loop
 loop-less c = search needs
 
 loop-again : tie.Need-loop-again Inv-loop μ-loop
-loop-again c = (search needs, fill-turn 8 _ _ _ refl (ap length (c .before .before .before .bytes .ensures)) (search needs) (c .before .before .loop .inv .1) (c .extend8 .ensures))
+loop-again c = (search needs, fill-turn 64 _ _ _ refl (places 8 48 0 _ (c .before .before .before .before .lanes8 .ensures) (c .before .before .before .pad8 .ensures)) (search needs) (c .before .before .loop .inv .1) (c .extend8 .ensures))
+
+cut16-requires : tie.Need-cut16-requires Inv-loop μ-loop
+cut16-requires c κs = search needs
 
 join16-requires : tie.Need-join16-requires Inv-loop μ-loop
 join16-requires c κs = search needs
 
 returns : tie.Need-returns Inv-loop μ-loop
-returns c = c .join16 .ensures ∙ ap (joined 16) (filled 8 _ _ _ refl (ap length (c .before .before .before .bytes .ensures)) (c .before .before .loop .i) (search needs) (c .before .before .loop .inv .1)) ∙ widened 8 _ _ (c .before .before .before .bytes .ensures)
+returns c =
+    c .join16 .ensures
+    ∙ ap (joined 16) (c .before .cut16 .ensures ∙ ap (take 8) (filled 64 _ _ _ refl (places 8 48 0 _ (c .before .before .before .before .before .lanes8 .ensures) (c .before .before .before .before .pad8 .ensures)) (c .before .before .before .loop .i) (search needs) (c .before .before .before .loop .inv .1) ∙ ap (λ (s : List ℕ). map (extends (c .before .before .before .before .before .before .args .signed) 8 16) s) (c .before .before .before .before .pad8 .ensures)))
+    ∙ ap (λ (s : List ℕ). joined 16 (take 8 (map (extends (c .before .before .before .before .before .before .args .signed) 8 16) (s ++ replicate 48 0)))) (c .before .before .before .before .before .lanes8 .ensures ∙ lanes-halves 8 8 refl refl (c .before .before .before .before .before .before .args .bits) 0 (search needs))
+    ∙ widened 8 _ _ refl
 
 pub widen8-spec : {M : Type 1} → statement M
-widen8-spec = tie.close (tie.spec Inv-loop μ-loop bytes-requires loop-holds array-read-extend8 extend8-requires mul-out array-write-out add-i loop-less loop-again join16-requires returns)
+widen8-spec = tie.close (tie.spec Inv-loop μ-loop lanes8-requires pad8-requires loop-holds array-read-extend8 extend8-requires mul-out array-write-out add-i loop-less loop-again cut16-requires join16-requires returns)
