@@ -1,7 +1,7 @@
 // Float lanes by their patterns, and a float scalar: the number itself, or the bits of a NaN. The language's own conversions between floats and
 // bits are undefined at a NaN, so a pattern is tested first; the standard moves a NaN's sign and payload along with the rest of a lane.
 ghost use mathlib.Core.Path.{_≡_};
-ghost use mathlib.Core.Bool.{_||_};
+ghost use mathlib.Core.Bool.{_||_, cond};
 ghost use lib.Ieee;
 ghost use lib.Ieee.{binary32, binary64, ofBits, nanBits};
 ghost use Rattle.standard.specs.Float.{fneg, fabs};
@@ -27,10 +27,18 @@ fn unordered32(a: u32, b: u32) -> bool
     if is_nan32(a) { true } else { is_nan32(b) }
 }
 
+// 1 for a NaN, else 0: a magnitude above the infinity's, 2^63 - 2^52, carries into bit 63 when 2^52 - 1 is added. A comparison of 64-bit numbers in
+// a vector takes nine instructions, this takes half as many.
+fn nan64(bits: u64) -> u64
+    ensures { λ r. ⌜ r ≡ cond (nanBits binary64 bits) 1 0 ⌝ }
+{
+    (bits % 0x8000_0000_0000_0000 + 0xF_FFFF_FFFF_FFFF) / 0x8000_0000_0000_0000
+}
+
 fn unordered64(a: u64, b: u64) -> bool
     ensures { λ r. ⌜ r ≡ (nanBits binary64 a || nanBits binary64 b) ⌝ }
 {
-    if is_nan64(a) { true } else { is_nan64(b) }
+    nan64(a) + nan64(b) != 0
 }
 
 pub fn feq32(a: u32, b: u32) -> bool

@@ -1,4 +1,4 @@
--- Extending and extended products, by the flags that choose the half and the sign.
+-- Extending, extended products and narrowing, by the flags that choose the half and the sign.
 -- Assumes nothing.
 use mathlib.Core.Path.{_≡_}
 use mathlib.Core.Bool.{Bool, true, false, cond}
@@ -6,8 +6,8 @@ use Prim.Native.Nat.{ℕ, _+_, _*_, _/_, _^_, _<_}
 use Rattle.standard.specs.Lanes.{digits, lanes, binary}
 use Rattle.standard.specs.Integer.{imul}
 use Rattle.standard.specs.Vector.{extend, extmul}
-use Rattle.standard.proofs.Widths.{parts, products, extend-u-lt, extend-s-lt}
-use Rattle.lane.specs.Widen.{extends}
+use Rattle.standard.proofs.Widths.{parts, products, extend-u-lt, extend-s-lt, narrow-u-lt, narrow-s-lt}
+use Rattle.lane.specs.Widen.{extends, narrows}
 use Rattle.simd.specs.declared.V128.{V128}
 use Rattle.simd.specs.Number.{number}
 use Rattle.simd.specs.Select.{half-of}
@@ -15,6 +15,10 @@ use Rattle.simd.specs.Select.{half-of}
 extends-lt : (signed : Bool) (w a : ℕ) → a < 2 ^ w → extends signed w (2 * w) a < 2 ^ (2 * w)
 extends-lt true = extend-s-lt
 extends-lt false = extend-u-lt
+
+pub narrows-lt : (signed : Bool) (m w a : ℕ) → narrows signed m w a < 2 ^ w
+narrows-lt true = narrow-s-lt
+narrows-lt false = narrow-u-lt
 
 module _ (w n : ℕ) (half : w * n ≡ 64) (whole : n + n ≡ 128 / w) (count : 64 / w ≡ n) (signed : Bool) where
   part-of : (high : Bool) (v : V128) → v .lo < 2 ^ 64 → half-of high (lanes w (number v)) ≡ digits w n (cond high (v .hi) (v .lo))

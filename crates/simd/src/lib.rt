@@ -140,69 +140,6 @@ fn half32(a: u32, b: u32) -> u64
     (a as u64) + 4294967296 * ((b as u64))
 }
 
-// A loop over lanes runs over 64 places: the lanes, then idle places whose results are dropped. A loop over the 16, 8 or 4 lanes alone is unrolled
-// before the compiler's vectoriser sees it, and is left as some ten shifts and masks a lane; one over 64 is vectorised, and its idle turns vanish
-// (docs/DECISIONS.md, "Idle places"). Here: the lanes with the idle places after them, and back.
-fn pad8(s: [u8; 16]) -> [u8; 64]
-    ensures { λ r. ⌜ r ≡ s ++ replicate 48 0 ⌝ }
-{
-    let mut r = [0; 64];
-    for i in 0..16 {
-        r[i] = s[i];
-    }
-    r
-}
-
-fn cut8(s: [u8; 64]) -> [u8; 16]
-    ensures { λ r. ⌜ r ≡ take 16 s ⌝ }
-{
-    let mut r = [0; 16];
-    for i in 0..16 {
-        r[i] = s[i];
-    }
-    r
-}
-
-fn pad16(s: [u16; 8]) -> [u16; 64]
-    ensures { λ r. ⌜ r ≡ s ++ replicate 56 0 ⌝ }
-{
-    let mut r = [0; 64];
-    for i in 0..8 {
-        r[i] = s[i];
-    }
-    r
-}
-
-fn cut16(s: [u16; 64]) -> [u16; 8]
-    ensures { λ r. ⌜ r ≡ take 8 s ⌝ }
-{
-    let mut r = [0; 8];
-    for i in 0..8 {
-        r[i] = s[i];
-    }
-    r
-}
-
-fn pad32(s: [u32; 4]) -> [u32; 64]
-    ensures { λ r. ⌜ r ≡ s ++ replicate 60 0 ⌝ }
-{
-    let mut r = [0; 64];
-    for i in 0..4 {
-        r[i] = s[i];
-    }
-    r
-}
-
-fn cut32(s: [u32; 64]) -> [u32; 4]
-    ensures { λ r. ⌜ r ≡ take 4 s ⌝ }
-{
-    let mut r = [0; 4];
-    for i in 0..4 {
-        r[i] = s[i];
-    }
-    r
-}
-
 impl V128 {
     // The sixteen bytes, byte 0 first, and a vector of them.
     pub fn lanes8(self) -> [u8; 16]
@@ -220,25 +157,49 @@ impl V128 {
         }
     }
 
+    // A loop over lanes runs over 64 places: the lanes, then idle places whose results are dropped. A loop over the 16, 8 or 4 lanes alone is unrolled
+    // before the compiler's vectoriser sees it, and is left as some ten shifts and masks a lane; one over 64 is vectorised, and its idle turns vanish
+    // (docs/DECISIONS.md, "Idle places"). Here: the lanes with the idle places after them, and a vector of the lanes before them.
+    fn places8(self) -> [u8; 64]
+        ensures { λ r. ⌜ r ≡ lanes 8 (number self) ++ replicate 48 0 ⌝ }
+    {
+        let s = self.lanes8();
+        let mut r = [0; 64];
+        for i in 0..16 {
+            r[i] = s[i];
+        }
+        r
+    }
+
+    fn from_places8(s: [u8; 64]) -> V128
+        ensures { λ r. ⌜ number r ≡ joined 8 (take 16 s) ⌝ }
+    {
+        let mut r = [0; 16];
+        for i in 0..16 {
+            r[i] = s[i];
+        }
+        V128::join8(r)
+    }
+
     fn unary8(self, op: u8, count: u32) -> V128
         ensures { λ r. ⌜ number r ≡ unary 8 (unary-of (unaries8 count) op) (number self) ⌝ }
     {
-        let mut a = pad8(self.lanes8());
+        let mut a = self.places8();
         for i in 0..64 {
             a[i] = lane::lanewise::unary8(op, count, a[i]);
         }
-        V128::join8(cut8(a))
+        V128::from_places8(a)
     }
 
     fn binary8(self, rhs: V128, op: u8) -> V128
         ensures { λ r. ⌜ number r ≡ binary 8 (binary-of (take 22 (binaries 8)) op) (number self) (number rhs) ⌝ }
     {
-        let mut a = pad8(self.lanes8());
-        let b = pad8(rhs.lanes8());
+        let mut a = self.places8();
+        let b = rhs.places8();
         for i in 0..64 {
             a[i] = lane::lanewise::binary8(op, a[i], b[i]);
         }
-        V128::join8(cut8(a))
+        V128::from_places8(a)
     }
 
     fn lanes16(self) -> [u16; 8]
@@ -256,25 +217,46 @@ impl V128 {
         }
     }
 
+    fn places16(self) -> [u16; 64]
+        ensures { λ r. ⌜ r ≡ lanes 16 (number self) ++ replicate 56 0 ⌝ }
+    {
+        let s = self.lanes16();
+        let mut r = [0; 64];
+        for i in 0..8 {
+            r[i] = s[i];
+        }
+        r
+    }
+
+    fn from_places16(s: [u16; 64]) -> V128
+        ensures { λ r. ⌜ number r ≡ joined 16 (take 8 s) ⌝ }
+    {
+        let mut r = [0; 8];
+        for i in 0..8 {
+            r[i] = s[i];
+        }
+        V128::join16(r)
+    }
+
     fn unary16(self, op: u8, count: u32) -> V128
         ensures { λ r. ⌜ number r ≡ unary 16 (unary-of (unaries16 count) op) (number self) ⌝ }
     {
-        let mut a = pad16(self.lanes16());
+        let mut a = self.places16();
         for i in 0..64 {
             a[i] = lane::lanewise::unary16(op, count, a[i]);
         }
-        V128::join16(cut16(a))
+        V128::from_places16(a)
     }
 
     fn binary16(self, rhs: V128, op: u8) -> V128
         ensures { λ r. ⌜ number r ≡ binary 16 (binary-of (binaries 16) op) (number self) (number rhs) ⌝ }
     {
-        let mut a = pad16(self.lanes16());
-        let b = pad16(rhs.lanes16());
+        let mut a = self.places16();
+        let b = rhs.places16();
         for i in 0..64 {
             a[i] = lane::lanewise::binary16(op, a[i], b[i]);
         }
-        V128::join16(cut16(a))
+        V128::from_places16(a)
     }
 
     fn lanes32(self) -> [u32; 4]
@@ -292,46 +274,67 @@ impl V128 {
         }
     }
 
+    fn places32(self) -> [u32; 64]
+        ensures { λ r. ⌜ r ≡ lanes 32 (number self) ++ replicate 60 0 ⌝ }
+    {
+        let s = self.lanes32();
+        let mut r = [0; 64];
+        for i in 0..4 {
+            r[i] = s[i];
+        }
+        r
+    }
+
+    fn from_places32(s: [u32; 64]) -> V128
+        ensures { λ r. ⌜ number r ≡ joined 32 (take 4 s) ⌝ }
+    {
+        let mut r = [0; 4];
+        for i in 0..4 {
+            r[i] = s[i];
+        }
+        V128::join32(r)
+    }
+
     fn unary32(self, op: u8, count: u32) -> V128
         ensures { λ r. ⌜ number r ≡ unary 32 (unary-of (unaries32 count) op) (number self) ⌝ }
     {
-        let mut a = pad32(self.lanes32());
+        let mut a = self.places32();
         for i in 0..64 {
             a[i] = lane::lanewise::unary32(op, count, a[i]);
         }
-        V128::join32(cut32(a))
+        V128::from_places32(a)
     }
 
     fn binary32(self, rhs: V128, op: u8) -> V128
         ensures { λ r. ⌜ number r ≡ binary 32 (binary-of binaries32 op) (number self) (number rhs) ⌝ }
     {
-        let mut a = pad32(self.lanes32());
-        let b = pad32(rhs.lanes32());
+        let mut a = self.places32();
+        let b = rhs.places32();
         for i in 0..64 {
             a[i] = lane::lanewise::binary32(op, a[i], b[i]);
         }
-        V128::join32(cut32(a))
+        V128::from_places32(a)
     }
 
     fn float_unary32(self, op: u8) -> V128
         ensures { λ r. ⌜ number r ≡ unary 32 (float-unary-of binary32 op) (number self) ⌝ }
     {
-        let mut a = pad32(self.lanes32());
+        let mut a = self.places32();
         for i in 0..64 {
             a[i] = lane::lanewise_float::float_unary32(op, a[i]);
         }
-        V128::join32(cut32(a))
+        V128::from_places32(a)
     }
 
     fn float_binary32(self, rhs: V128, op: u8) -> V128
         ensures { λ r. ⌜ number r ≡ binary 32 (float-binary-of binary32 op) (number self) (number rhs) ⌝ }
     {
-        let mut a = pad32(self.lanes32());
-        let b = pad32(rhs.lanes32());
+        let mut a = self.places32();
+        let b = rhs.places32();
         for i in 0..64 {
             a[i] = lane::lanewise_float::float_binary32(op, a[i], b[i]);
         }
-        V128::join32(cut32(a))
+        V128::from_places32(a)
     }
 
     fn splat8(x: u8) -> V128

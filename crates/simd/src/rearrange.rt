@@ -13,14 +13,6 @@ use crate::V128;
 use crate::answer::INDEX;
 use crate::answer::VectorAnswer;
 
-// The byte at an index, 0 past the end: "an index of 16 to 255 gives 0".
-fn byte_at(a: [u8; 16], index: u8) -> u8
-    ensures { λ r. ⌜ r ≡ getD a index 0 ⌝ }
-{
-    let i = index as usize;
-    if i < 16 { a[i] } else { 0 }
-}
-
 // `t` with the sixteen bytes of `a` from place `at` on.
 fn put(t: [u8; 32], at: usize, a: [u8; 16]) -> [u8; 32]
     requires { ⌜ at ≤ 16 ⌝ }
@@ -53,16 +45,12 @@ fn all_legal(s: [u8; 16]) -> bool
 }
 
 impl V128 {
+    // "An index of 16 to 255 gives 0": the byte after the sixteen, which 16 names.
     pub fn i8x16_swizzle(self, s: V128) -> V128
         ensures { λ r. ⌜ number r ≡ swizzle (number self) (number s) ⌝ }
     {
-        let t = self.lanes8();
-        let indices = s.lanes8();
-        let mut out = [0u8; 16];
-        for i in 0..16 {
-            out[i] = byte_at(t, indices[i]);
-        }
-        V128::join8(out)
+        let indices = s.i8x16_min_u(V128::splat8(16));
+        V128::picked(beside(self.lanes8(), [0; 16]), indices.lanes8())
     }
 
     // The bytes of the table that the indices name modulo 32: an index that is none of its table's is refused before.

@@ -1,8 +1,6 @@
 // Reductions: one number from all lanes of a vector.
 ghost use mathlib.Core.Path.{_≡_};
 ghost use mathlib.Core.Bool.{cond};
-ghost use mathlib.Core.List.{_++_};
-ghost use lib.ListN.{replicate};
 ghost use Rattle.standard.specs.Vector.{any-true, all-true, bitmask};
 ghost use Rattle.simd.specs.Number.{number};
 use crate::V128;
@@ -10,37 +8,6 @@ use lane::compare::sign8;
 use lane::compare::sign16;
 use lane::compare::sign32;
 use lane::compare::sign64;
-
-// The lanes and ones after them: idle places that are not zero.
-fn ones8(s: [u8; 16]) -> [u8; 96]
-    ensures { λ r. ⌜ r ≡ s ++ replicate 80 1 ⌝ }
-{
-    let mut r = [1; 96];
-    for i in 0..16 {
-        r[i] = s[i];
-    }
-    r
-}
-
-fn ones16(s: [u16; 8]) -> [u16; 96]
-    ensures { λ r. ⌜ r ≡ s ++ replicate 88 1 ⌝ }
-{
-    let mut r = [1; 96];
-    for i in 0..8 {
-        r[i] = s[i];
-    }
-    r
-}
-
-fn ones32(s: [u32; 4]) -> [u32; 96]
-    ensures { λ r. ⌜ r ≡ s ++ replicate 92 1 ⌝ }
-{
-    let mut r = [1; 96];
-    for i in 0..4 {
-        r[i] = s[i];
-    }
-    r
-}
 
 impl V128 {
     // The Rust's test of the number `as_u128` becomes one of two halves.
@@ -50,37 +17,23 @@ impl V128 {
         if self.lo == 0 { self.hi != 0 } else { true }
     }
 
+    // No lane is zero where no comparison with zero holds.
     pub fn i8x16_all_true(self) -> bool
         ensures { λ r. ⌜ cond r 1 0 ≡ all-true 8 (number self) ⌝ }
     {
-        let a = ones8(self.lanes8());
-        let mut ok = true;
-        for i in 0..96 {
-            ok = ok & (a[i] != 0);
-        }
-        ok
+        !self.i8x16_eq(V128 { lo: 0, hi: 0 }).v128_any_true()
     }
 
     pub fn i16x8_all_true(self) -> bool
         ensures { λ r. ⌜ cond r 1 0 ≡ all-true 16 (number self) ⌝ }
     {
-        let a = ones16(self.lanes16());
-        let mut ok = true;
-        for i in 0..96 {
-            ok = ok & (a[i] != 0);
-        }
-        ok
+        !self.i16x8_eq(V128 { lo: 0, hi: 0 }).v128_any_true()
     }
 
     pub fn i32x4_all_true(self) -> bool
         ensures { λ r. ⌜ cond r 1 0 ≡ all-true 32 (number self) ⌝ }
     {
-        let a = ones32(self.lanes32());
-        let mut ok = true;
-        for i in 0..96 {
-            ok = ok & (a[i] != 0);
-        }
-        ok
+        !self.i32x4_eq(V128 { lo: 0, hi: 0 }).v128_any_true()
     }
 
     pub fn i64x2_all_true(self) -> bool

@@ -9,17 +9,9 @@ ghost use Rattle.lane.specs.Widen.{extends, narrows};
 ghost use Rattle.simd.specs.Number.{number};
 ghost use Rattle.simd.specs.Select.{half-of};
 use crate::V128;
-use crate::cut8;
-use crate::cut16;
-use crate::cut32;
-use crate::half8;
-use crate::half16;
-use crate::pad8;
-use crate::pad16;
-use crate::pad32;
+use lane::lanewise::DOT;
 use lane::lanewise::EXTADD_S;
 use lane::lanewise::EXTADD_U;
-use lane::widen::dot32;
 use lane::widen::extend8;
 use lane::widen::extend16;
 use lane::widen::extend32;
@@ -30,23 +22,23 @@ impl V128 {
     fn widen8(bits: u64, signed: bool) -> V128
         ensures { λ r. ⌜ number r ≡ widen (extends signed) 8 bits ⌝ }
     {
-        let a = pad8(V128 { lo: bits, hi: 0 }.lanes8());
+        let a = V128 { lo: bits, hi: 0 }.places8();
         let mut out = [0u16; 64];
         for i in 0..64 {
             out[i] = extend8(signed, a[i]);
         }
-        V128::join16(cut16(out))
+        V128::from_places16(out)
     }
 
     fn widen16(bits: u64, signed: bool) -> V128
         ensures { λ r. ⌜ number r ≡ widen (extends signed) 16 bits ⌝ }
     {
-        let a = pad16(V128 { lo: bits, hi: 0 }.lanes16());
+        let a = V128 { lo: bits, hi: 0 }.places16();
         let mut out = [0u32; 64];
         for i in 0..64 {
             out[i] = extend16(signed, a[i]);
         }
-        V128::join32(cut32(out))
+        V128::from_places32(out)
     }
 
     fn widen32(bits: u64, signed: bool) -> V128
@@ -113,22 +105,12 @@ impl V128 {
     fn narrowed16(self, signed: bool) -> u64
         ensures { λ r. ⌜ r ≡ joined 8 (map (narrows signed 16 8) (lanes 16 (number self))) ⌝ }
     {
-        let a = pad16(self.lanes16());
-        let mut wide = [0u8; 64];
+        let a = self.places16();
+        let mut out = [0u8; 64];
         for i in 0..64 {
-            wide[i] = narrow16(signed, a[i]);
+            out[i] = narrow16(signed, a[i]);
         }
-        let out = cut8(wide);
-        half8(
-            out[0],
-            out[1],
-            out[2],
-            out[3],
-            out[4],
-            out[5],
-            out[6],
-            out[7],
-        )
+        V128::from_places8(out).lo
     }
 
     fn narrow16(self, high: V128, signed: bool) -> V128
@@ -144,13 +126,12 @@ impl V128 {
     fn narrowed32(self, signed: bool) -> u64
         ensures { λ r. ⌜ r ≡ joined 16 (map (narrows signed 32 16) (lanes 32 (number self))) ⌝ }
     {
-        let a = pad32(self.lanes32());
-        let mut wide = [0u16; 64];
+        let a = self.places32();
+        let mut out = [0u16; 64];
         for i in 0..64 {
-            wide[i] = narrow32(signed, a[i]);
+            out[i] = narrow32(signed, a[i]);
         }
-        let out = cut16(wide);
-        half16(out[0], out[1], out[2], out[3])
+        V128::from_places16(out).lo
     }
 
     fn narrow32(self, high: V128, signed: bool) -> V128
@@ -330,15 +311,16 @@ impl V128 {
         self.unary32(EXTADD_U, 0)
     }
 
+    // Over 32 places: over all 64, as in `binary32`, a real loop is left.
     pub fn i32x4_dot_i16x8_s(self, rhs: V128) -> V128
         ensures { λ r. ⌜ number r ≡ dot (number self) (number rhs) ⌝ }
     {
-        let mut a = pad32(self.lanes32());
-        let b = pad32(rhs.lanes32());
+        let mut a = self.places32();
+        let b = rhs.places32();
         for i in 0..32 {
-            a[i] = dot32(a[i], b[i]);
+            a[i] = lane::lanewise::binary32(DOT, a[i], b[i]);
         }
-        V128::join32(cut32(a))
+        V128::from_places32(a)
     }
 
     pub fn i8x16_narrow_i16x8_s(self, high: V128) -> V128

@@ -39,9 +39,6 @@ pub zip-map : (f : ℕ → ℕ) (xs : List ℕ) → zip (λ x y. f x) xs xs ≡ 
 zip-map f [] = refl
 zip-map f (x ∷ xs) = ap (λ (r : List ℕ). f x ∷ r) (zip-map f xs)
 
-count : (w x : ℕ) {xs : List ℕ} → xs ≡ lanes w x → length xs ≡ 128 / w
-count w x e = ap length e ∙ length-digits w (128 / w) x
-
 -- of lists with idle places after them, the lanes, once the loop is past them
 zipTo-front : (f : ℕ → ℕ → ℕ) (i : ℕ) (xs ys u v : List ℕ) → length xs ≡ length ys → length xs ≤ i → take (length xs) (zipTo f i (xs ++ u) (ys ++ v)) ≡ zip f xs ys
 zipTo-front f i [] ys u v e h = refl
@@ -49,25 +46,28 @@ zipTo-front f i (x ∷ xs) [] u v e h = absurd (suc-ne-zero (length xs) e)
 zipTo-front f zero (x ∷ xs) (y ∷ ys) u v e h = absurd (not-suc-le-zero h)
 zipTo-front f (suc i) (x ∷ xs) (y ∷ ys) u v e h = ap (λ (r : List ℕ). f x y ∷ r) (zipTo-front f i xs ys u v (suc-inj e) (le-of-suc-le-suc h))
 
--- the lanes and the m idle places
-pub places : (w m c x : ℕ) {s xs : List ℕ} → s ≡ lanes w x → xs ≡ s ++ replicate m c → length xs ≡ 128 / w + m
-places w m c x {s} es ex = ap length ex ∙ length-append s (replicate m c) ∙ ap₂ _+_ (count w x es) (length-replicate m c)
+-- the lanes and the m idle places after them
+pub places : (w m x : ℕ) {xs : List ℕ} → xs ≡ lanes w x ++ replicate m 0 → length xs ≡ 128 / w + m
+places w m x e = ap length e ∙ length-append (lanes w x) (replicate m 0) ∙ ap₂ _+_ (length-digits w (128 / w) x) (length-replicate m 0)
 
 -- A loop over the lanes of two vectors and the m idle places after them: a turn of it, and what is joined of the lanes once it is past them.
-module _ (w m : ℕ) (f : ℕ → ℕ → ℕ) (x y : ℕ) {s t xs ys : List ℕ}
-    (es : s ≡ lanes w x) (et : t ≡ lanes w y) (ex : xs ≡ s ++ replicate m 0) (ey : ys ≡ t ++ replicate m 0) where
+module _ (w m : ℕ) (f : ℕ → ℕ → ℕ) (x y : ℕ) {xs ys : List ℕ} (ex : xs ≡ lanes w x ++ replicate m 0) (ey : ys ≡ lanes w y ++ replicate m 0) where
   pub turn : {i r : ℕ} {a : List ℕ} → i < 128 / w + m → a ≡ zipTo f i xs ys → r ≡ f (getD a i 0) (getD ys i 0) → set a i r ≡ zipTo f (i + 1) xs ys
   turn {i} h ea er =
-      rw (er, ea, add-one) (zipTo-turn f i xs ys (subst⁻¹ (λ (n : ℕ). i < n) (places w m 0 x es ex) h) (subst⁻¹ (λ (n : ℕ). i < n) (places w m 0 y et ey) h))
+      rw (er, ea, add-one) (zipTo-turn f i xs ys (subst⁻¹ (λ (n : ℕ). i < n) (places w m x ex) h) (subst⁻¹ (λ (n : ℕ). i < n) (places w m y ey) h))
 
-  pub done : (i : ℕ) {a b : List ℕ} → 128 / w ≤ i → a ≡ zipTo f i xs ys → b ≡ take (128 / w) a → joined w b ≡ binary w f x y
+  pub done : (i : ℕ) {a : List ℕ} → 128 / w ≤ i → a ≡ zipTo f i xs ys → joined w (take (128 / w) a) ≡ binary w f x y
   unfolding binary
-  done i h ea eb =
+  done i h ea =
       ap (joined w)
-      (eb ∙ ap (take (128 / w)) (ea ∙ ap₂ (zipTo f i) ex ey)
-      ∙ ap (λ (n : ℕ). take n (zipTo f i (s ++ replicate m 0) (t ++ replicate m 0))) (sym (count w x es))
-      ∙ zipTo-front f i s t (replicate m 0) (replicate m 0) (count w x es ∙ sym (count w y et)) (subst⁻¹ (λ (n : ℕ). n ≤ i) (count w x es) h)
-      ∙ ap₂ (zip f) es et)
+      (ap₂ take (sym lx) (ea ∙ ap₂ (zipTo f i) ex ey)
+      ∙ zipTo-front f i (lanes w x) (lanes w y) (replicate m 0) (replicate m 0) (lx ∙ sym ly) (subst⁻¹ (λ (n : ℕ). n ≤ i) lx h))
+    where
+      lx : length (lanes w x) ≡ 128 / w
+      lx = length-digits w (128 / w) x
+
+      ly : length (lanes w y) ≡ 128 / w
+      ly = length-digits w (128 / w) y
 
 -- a loop over one vector: the second operand is not looked at
 pub one-list : (w : ℕ) (f : ℕ → ℕ) (x : ℕ) → binary w (λ i j. f i) x x ≡ unary w f x

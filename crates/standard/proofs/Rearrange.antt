@@ -6,13 +6,15 @@ use mathlib.Core.List.{List, [], _∷_, _++_, map, append-nil}
 use Prim.Native.Nat.{ℕ, _+_, _%_, _<_, _≤_, suc-le-suc}
 use native.Mathlib.Nat.{mod-eq-of-lt}
 use native.Mathlib.Omega.{arith}
-use borrow.Author.Tests.{le-leb, lt-leb, leb-true}
-use lib.Dec.{T, leb}
-use lib.ListN.{length, getD, drop, length-append, length-drop, drop-of-length-le}
-use lib.Seq.{paste, take-all, take-at}
-use Rattle.standard.specs.Lanes.{joined, lanes}
+use borrow.Author.Tests.{le-leb, lt-leb, leb-true, ltb-true, ltb-false}
+use lib.Dec.{T, leb, ltb}
+use lib.ListN.{length, getD, drop, replicate, length-append, length-drop, drop-of-length-le, List·getD-append, List·getD-eq-default}
+use lib.Seq.{paste, take-all, take-at, getD-at}
+use Rattle.standard.specs.Lanes.{joined, lanes, binary, splat}
+use Rattle.standard.specs.Integer.{imin-u}
 use Rattle.standard.specs.Refusal.{legal}
 use Rattle.standard.specs.Vector.{swizzle, shuffle}
+use Rattle.standard.proofs.Digits.{Below, lanes-joined}
 use Rattle.standard.proofs.Reduce.{next}
 
 module _ (xs : List ℕ) (i : ℕ) (h : i < length xs) where
@@ -44,9 +46,41 @@ beside-is zs a b lz la lb =
     (drop-of-length-le (a ++ drop 16 zs) {i = 32} (simp (length-append, length-drop) (omega arith)))
     ∙ append-nil (a ++ b)
 
-pub swizzle-is : (x s : ℕ) {xs is : List ℕ} → xs ≡ lanes 8 x → is ≡ lanes 8 s → joined 8 (map (λ i. getD xs i 0) is) ≡ swizzle x s
+-- the lanes of a vector, each held to at most 16
+held : (s : ℕ) → lanes 8 (binary 8 (imin-u 8) s (splat 8 16)) ≡ map (λ i. imin-u 8 i 16) (lanes 8 s)
+unfolding binary splat
+held s = lanes-joined 8 refl (map (λ i. imin-u 8 i 16) (lanes 8 s)) refl (below (lanes 8 s))
+  where
+    small : (i : ℕ) (t : Bool) → ltb i 16 ≡ t → cond t i 16 < 256
+    small i true e = omega (arith, ltb-true i 16 e)
+    small i false e = omega arith
+
+    below : (is : List ℕ) → Below 256 (map (λ i. imin-u 8 i 16) is)
+    below [] = tt
+    below (i ∷ is) = (small i (ltb i 16) refl, below is)
+
+-- an index of 16 or above names the zero after the sixteen bytes
+byte-or-zero : (xs : List ℕ) → length xs ≡ 16 → (i : ℕ) → getD (xs ++ replicate 16 0) (imin-u 8 i 16 % 32) 0 ≡ getD xs i 0
+byte-or-zero xs l i = pick (ltb i 16) refl
+  where
+    pick : (t : Bool) → ltb i 16 ≡ t → getD (xs ++ replicate 16 0) (cond t i 16 % 32) 0 ≡ getD xs i 0
+    pick true e =
+        let h : i < 16 = ltb-true i 16 e in
+        ap (λ (k : ℕ). getD (xs ++ replicate 16 0) k 0) (mod-eq-of-lt (omega arith)) ∙ List·getD-append xs (replicate 16 0) 0 i (omega arith)
+    pick false e =
+        let h : 16 ≤ i = ltb-false i 16 e in
+        getD-at xs 0 (replicate 15 0) 0 16 l ∙ sym (List·getD-eq-default xs 0 {n = i} (omega arith))
+
+pub swizzle-is : (x s : ℕ) {m : ℕ} {t xs is : List ℕ} → t ≡ xs ++ replicate 16 0 → xs ≡ lanes 8 x → is ≡ lanes 8 m → m ≡ binary 8 (imin-u 8) s (splat 8 16)
+    → joined 8 (map (λ i. getD t (i % 32) 0) is) ≡ swizzle x s
 unfolding swizzle
-swizzle-is x s ex es = ap₂ (λ (xs is : List ℕ). joined 8 (map (λ i. getD xs i 0) is)) ex es
+swizzle-is x s et ex ei em =
+    ap₂ (λ (t is : List ℕ). joined 8 (map (λ i. getD t (i % 32) 0) is)) (et ∙ ap (λ (xs : List ℕ). xs ++ replicate 16 0) ex) (ei ∙ ap (lanes 8) em ∙ held s)
+    ∙ ap (joined 8) (each (lanes 8 s))
+  where
+    each : (is : List ℕ) → map (λ i. getD (lanes 8 x ++ replicate 16 0) (i % 32) 0) (map (λ i. imin-u 8 i 16) is) ≡ map (λ i. getD (lanes 8 x) i 0) is
+    each [] = refl
+    each (i ∷ is) = ap₂ _∷_ (byte-or-zero (lanes 8 x) refl i) (each is)
 
 pub shuffle-is : (is : List ℕ) (x y : ℕ) {t xs ys : List ℕ} → legal is ≡ true → t ≡ xs ++ ys → xs ≡ lanes 8 x → ys ≡ lanes 8 y
     → joined 8 (map (λ i. getD t (i % 32) 0) is) ≡ shuffle is x y

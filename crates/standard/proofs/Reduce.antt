@@ -1,34 +1,28 @@
--- Loops that read the lanes and leave one number: whether a lane is zero, and which lanes have their sign bit set.
+-- One number from all lanes: whether one is zero, and which have their sign bit set.
 -- Assumes nothing.
 use mathlib.Core.Path.{_≡_, refl, sym, ap, ap₂, _∙_}
 use mathlib.Core.Bool.{Bool, true, false, cond, not, _&&_}
-use mathlib.Core.List.{List, [], _∷_, _++_, map}
+use mathlib.Core.List.{List, [], _∷_, map}
 use Prim.Native.Nat.{ℕ, zero, suc, _+_, _-_, _*_, _/_, _^_, _<_, _≤_}
-use native.Mathlib.Nat.{add-zero, add-comm, one-mul, lt-of-lt-of-le, le-of-eq}
+use native.Mathlib.Nat.{add-zero, add-comm, one-mul, mul-zero, mul-pos, zero-lt-suc, zero-mod, zero-div, lt-of-lt-of-le, le-of-eq}
 use native.Mathlib.Numerals.{add-one}
 use native.Mathlib.Omega.{arith}
 use borrow.Author.Tests.{eq-eqb, ne-eqb, eqb-true, eqb-false}
 use lib.Arith.{le-zero}
-use lib.Dec.{eqb, lit<}
-use lib.Pow.{pow-mono}
+use lib.Dec.{eqb, eqb·suc-zero, lit<}
+use lib.Pow.{pow-mono, pow-pos}
 use lib.ListN.{length, getD, drop, length-drop, length-map, drop-of-length-le, replicate}
 use lib.Seq.{drop-cons}
 use lib.Signed.{nonNeg}
-use Rattle.standard.specs.Lanes.{joined, lanes}
-use Rattle.standard.specs.Integer.{signed}
+use Rattle.standard.specs.Lanes.{digits, joined, lanes, zip, binary}
+use Rattle.standard.specs.Integer.{signed, truth, ieq}
 use Rattle.standard.specs.Vector.{no-zero, any-true, all-true, bitmask}
 use Rattle.standard.proofs.Access.{two-lanes}
 use Rattle.standard.proofs.Digits.{Below, length-digits, joined-lt}
-use Rattle.standard.proofs.Loop.{places}
 
 -- the list from place i on, taken apart
 pub next : (xs : List ℕ) (i : ℕ) → i < length xs → drop i xs ≡ getD xs i 0 ∷ drop (i + 1) xs
 next xs i h = rw add-one (drop-cons xs i 0 h)
-
-both : (ok t : Bool) (n : ℕ) → cond ok (cond t 0 n) 0 ≡ cond (ok && not t) n 0
-both true true n = refl
-both true false n = refl
-both false t n = refl
 
 -- the sign bit of a lane
 abbrev pub sign-of : ℕ → ℕ → ℕ
@@ -43,25 +37,38 @@ signs-below : (w : ℕ) (xs : List ℕ) → Below 2 (map (sign-of w) xs)
 signs-below w [] = tt
 signs-below w (x ∷ xs) = (sign-small (nonNeg (signed w x)) refl, signs-below w xs)
 
--- ones after a list leave its test as it is
-no-zero-ones : (m : ℕ) (xs : List ℕ) → no-zero (xs ++ replicate m 1) ≡ no-zero xs
-no-zero-ones zero [] = refl
-no-zero-ones (suc m) [] = no-zero-ones m []
-no-zero-ones m (x ∷ xs) = ap (cond (eqb x 0) 0) (no-zero-ones m xs)
+-- all-true, by a comparison of every lane with zero
+zeros : (w n : ℕ) → digits w n 0 ≡ replicate n 0
+zeros w zero = refl
+zeros w (suc n) = ap₂ _∷_ (zero-mod (2 ^ w)) (ap (digits w n) (zero-div (2 ^ w)) ∙ zeros w n)
 
--- all-true over the lanes and m ones after them, from the low lane up: what is known after i places, one place more, and the end
-module _ (w m x : ℕ) {s xs : List ℕ} (es : s ≡ lanes w x) (ex : xs ≡ s ++ replicate m 1) where
-  pub all-turn : (i : ℕ) (ok : Bool) → i < 128 / w + m → cond ok (no-zero (drop i xs)) 0 ≡ no-zero xs
-      → cond (ok && not (eqb (getD xs i 0) 0)) (no-zero (drop (i + 1) xs)) 0 ≡ no-zero xs
-  all-turn i ok h e =
-      sym (both ok (eqb (getD xs i 0) 0) (no-zero (drop (i + 1) xs)))
-      ∙ ap (λ (ys : List ℕ). cond ok (no-zero ys) 0) (sym (next xs i (rw (places w m 1 x es ex) h))) ∙ e
+scaled : (w r : ℕ) → eqb (0 + 2 ^ w * r) 0 ≡ eqb r 0
+scaled w zero = eq-eqb (0 + 2 ^ w * 0) 0 (omega (arith, mul-zero (2 ^ w)))
+scaled w (suc r) = ne-eqb (0 + 2 ^ w * suc r) 0 (λ e. absurd (omega (arith, mul-pos (pow-pos w) (zero-lt-suc r)))) ∙ sym (eqb·suc-zero r)
 
-  pub all-end : (i : ℕ) (ok : Bool) → i ≡ 128 / w + m → cond ok (no-zero (drop i xs)) 0 ≡ no-zero xs → cond ok 1 0 ≡ all-true w x
-  unfolding all-true
-  all-end i ok h e =
-      ap (λ (ys : List ℕ). cond ok (no-zero ys) 0) (sym (drop-of-length-le xs {i = i} (le-of-eq (places w m 1 x es ex ∙ sym h))))
-      ∙ e ∙ ap no-zero ex ∙ no-zero-ones m s ∙ ap no-zero es
+other : (any t : Bool) → _≡_ {A = ℕ} (cond any 1 0) (cond t 0 1) → _≡_ {A = ℕ} (cond (not any) 1 0) (cond t 1 0)
+other true true e = absurd (omega arith)
+other true false e = refl
+other false true e = refl
+other false false e = absurd (omega arith)
+
+compared : (w : ℕ) → 1 < 2 ^ w → (xs : List ℕ) → cond (eqb (joined w (zip (ieq w) xs (replicate (length xs) 0))) 0) 1 0 ≡ no-zero xs
+compared w h [] = refl
+compared w h (x ∷ xs) = pick (eqb x 0) (compared w h xs)
+  where
+    rest : ℕ
+    rest = joined w (zip (ieq w) xs (replicate (length xs) 0))
+
+    pick : (t : Bool) → cond (eqb rest 0) 1 0 ≡ no-zero xs → cond (eqb (truth w t + 2 ^ w * rest) 0) 1 0 ≡ cond t 0 (no-zero xs)
+    pick true e = rw (ne-eqb (2 ^ w - 1 + 2 ^ w * rest) 0 (λ z. absurd (omega (arith, h))))
+    pick false e = ap (λ (t : Bool). cond t 1 0) (scaled w rest) ∙ e
+
+pub all-true-is : (w : ℕ) → 1 < 2 ^ w → (x : ℕ) {z : ℕ} (any : Bool) → z ≡ binary w (ieq w) x 0 → cond any 1 0 ≡ any-true z → cond (not any) 1 0 ≡ all-true w x
+unfolding binary any-true all-true
+all-true-is w h x {z} any ez ea =
+    other any (eqb z 0) ea
+    ∙ ap (λ (n : ℕ). cond (eqb n 0) 1 0) (ez ∙ ap (λ (ys : List ℕ). joined w (zip (ieq w) (lanes w x) ys)) (zeros w (128 / w) ∙ ap (λ (n : ℕ). replicate n 0) (sym (length-digits w (128 / w) x))))
+    ∙ compared w h (lanes w x)
 
 -- A loop over the lanes of a vector.
 module _ (w x : ℕ) {xs : List ℕ} (ex : xs ≡ lanes w x) where

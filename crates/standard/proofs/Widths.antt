@@ -1,18 +1,22 @@
 -- Lanes of one width from those of another: widening, the halves of the lanes, products of extended lanes, narrowing.
 -- Assumes nothing.
-use mathlib.Core.Path.{_≡_, sym, ap, ap₂, _∙_}
+use mathlib.Core.Path.{_≡_, refl, sym, ap, ap₂, _∙_, subst}
+use mathlib.Core.Bool.{Bool, true, false, cond}
 use mathlib.Core.List.{List, [], _∷_, _++_, map}
-use Prim.Native.Nat.{ℕ, _+_, _*_, _/_, _%_, _^_, _<_}
+use Prim.Native.Nat.{ℕ, _+_, _-_, _*_, _/_, _%_, _^_, _<_}
 use native.Mathlib.Nat.{add-zero, mod-lt, lt-of-lt-of-le}
 use native.Mathlib.Omega.{arith}
+use borrow.Author.Tests.{ltb-false, le-ltb}
+use lib.Dec.{ltb}
 use lib.IntN.{ℤ, pos, negsuc}
+use lib.Signed.{ltZ}
 use lib.ListN.{length, length-append, length-map}
 use lib.Pow.{pow-pos, pow-mono, shr-mod}
 use lib.Seq.{take-at, drop-at}
 use Rattle.standard.specs.Lanes.{digits, joined, lanes, zip, binary, lowHalf, highHalf}
-use Rattle.standard.specs.Integer.{signed, modulo, imul, extend-u, extend-s}
+use Rattle.standard.specs.Integer.{signed, modulo, sat-u, imul, extend-u, extend-s, narrow-u, narrow-s}
 use Rattle.standard.specs.Vector.{extend, extmul, narrow, widen}
-use Rattle.standard.proofs.Digits.{Below, digits-below, length-digits, lanes-joined}
+use Rattle.standard.proofs.Digits.{Below, digits-below, length-digits, low-digit, joined-lt, lanes-joined}
 use Rattle.standard.proofs.Halves.{lanes-halves, joined-halves, map-append}
 
 -- the halves of a list in two parts of one length
@@ -63,6 +67,43 @@ module _ (w n : ℕ) (sx : ℕ → ℕ → ℕ → ℕ) (lt : (a : ℕ) → a < 
       → binary (2 * w) (imul (2 * w)) (extend half sx w x) (extend half sx w y) ≡ extmul half sx w x y
   unfolding binary extmul
   products half x y j k ej ek = ap₂ (λ (p q : List ℕ). joined (2 * w) (zip (imul (2 * w)) p q)) (extended half x j ej) (extended half y k ek)
+
+-- Narrowed lanes fit the width that they are narrowed to.
+pub narrow-u-lt : (m w a : ℕ) → narrow-u m w a < 2 ^ w
+narrow-u-lt m w a = fits (signed m a)
+  where
+    held : (i : ℕ) (t : Bool) → ltb (2 ^ w - 1) i ≡ t → cond t (2 ^ w - 1) i < 2 ^ w
+    held i true e = omega (arith, pow-pos w)
+    held i false e = omega (arith, pow-pos w, ltb-false (2 ^ w - 1) i e)
+
+    fits : (z : ℤ) → sat-u w z < 2 ^ w
+    fits (pos i) = rw (le-ltb i 0 (omega arith)) (held i (ltb (2 ^ w - 1) i) refl)
+    fits (negsuc i) = pow-pos w
+
+pub narrow-s-lt : (m w a : ℕ) → narrow-s m w a < 2 ^ w
+narrow-s-lt m w a = modulo-lt w (cond (ltZ (signed m a) low) low (cond (ltZ high (signed m a)) high (signed m a)))
+  where
+    low : ℤ
+    low = negsuc (2 ^ (w - 1) - 1)
+
+    high : ℤ
+    high = pos (2 ^ (w - 1) - 1)
+
+-- the low half of a vector whose low lanes are these, whatever the others
+pub low-lanes : (w n : ℕ) → w * n ≡ 64 → (f : ℕ → ℕ) → ((a : ℕ) → f a < 2 ^ w) → (xs ys : List ℕ) → length xs ≡ n
+    → (lo hi : ℕ) → lo < 2 ^ 64 → lo + 2 ^ 64 * hi ≡ joined w (map f xs ++ ys) → lo ≡ joined w (map f xs)
+low-lanes w n half f lt xs ys e lo hi h eq =
+    sym (low-digit 64 lo hi h)
+    ∙ ap (λ (k : ℕ). k % 2 ^ 64) (eq ∙ joined-halves w n half (map f xs) ys count)
+    ∙ low-digit 64 (joined w (map f xs)) (joined w ys)
+    (subst (λ (k : ℕ). joined w (map f xs) < 2 ^ k) (ap (λ (k : ℕ). w * k) count ∙ half) (joined-lt w (map f xs) (below xs)))
+  where
+    count : length (map f xs) ≡ n
+    count = length-map xs f ∙ e
+
+    below : (ys : List ℕ) → Below (2 ^ w) (map f ys)
+    below [] = tt
+    below (y ∷ ys) = (lt y, below ys)
 
 -- A narrowed vector: the first vector gives the low half.
 pub narrow-halves : (w n : ℕ) → w * n ≡ 64 → 128 / (2 * w) ≡ n → (sx : ℕ → ℕ → ℕ → ℕ) (x y : ℕ) {lo hi : ℕ}

@@ -1,19 +1,40 @@
 -- `lane::float::unordered64` meets its contract. Assumes nothing.
 use borrow.Author.Needs.{needs}
+use mathlib.Core.Path.{_≡_, refl}
+use mathlib.Core.Bool.{Bool, true, false, cond, not, _||_}
+use Prim.Native.Nat.{ℕ, _+_, _≤_}
+use native.Mathlib.Omega.{arith}
+use lib.Dec.{eqb, lit≤}
+use lib.Ieee.{binary64, nanBits}
 use Rattle.lane.proofs.float.unordered64.Statement.{statement}
 use Rattle.lane.proofs.float.unordered64.Tie as tie
 
-is-nan64-requires : tie.Need-is-nan64-requires
-is-nan64-requires c κs = search needs
+one-at-most : (t : Bool) {r : ℕ} → r ≡ cond t 1 0 → r ≤ 1
+one-at-most true e = rw e (lit≤ tt)
+one-at-most false e = rw e (lit≤ tt)
 
-is-nan64-requires-2 : tie.Need-is-nan64-requires-2
-is-nan64-requires-2 c κs = search needs
+either : (s t : Bool) → not (eqb (cond s 1 0 + cond t 1 0) 0) ≡ (s || t)
+either true true = refl
+either true false = refl
+either false true = refl
+either false false = refl
+
+nan64-requires : tie.Need-nan64-requires
+nan64-requires c κs = search needs
+
+nan64-requires-2 : tie.Need-nan64-requires-2
+nan64-requires-2 c κs = search needs
+
+add-result : tie.Need-add-result
+add-result c =
+    let a = one-at-most (nanBits binary64 (c .before .before .args .a)) (c .before .nan64 .ensures) in
+    let b = one-at-most (nanBits binary64 (c .before .before .args .b)) (c .nan642 .ensures) in
+    record { fits = omega (arith, a, b) }
 
 returns : tie.Need-returns
-returns c = rw (← c .before .is-nan64 .ensures, c .if1 .taken)
-
-returns-2 : tie.Need-returns-2
-returns-2 c = rw (← c .before .before .is-nan64 .ensures, c .before .if1 .left) (c .is-nan642 .ensures)
+returns c =
+    rw (c .before .nan64 .ensures, c .nan642 .ensures)
+    (either (nanBits binary64 (c .before .before .args .a)) (nanBits binary64 (c .before .before .args .b)))
 
 pub unordered64-spec : {M : Type 1} → statement M
-unordered64-spec = tie.close (tie.spec is-nan64-requires is-nan64-requires-2 returns returns-2)
+unordered64-spec = tie.close (tie.spec nan64-requires nan64-requires-2 add-result returns)

@@ -13,17 +13,11 @@ Inv-loop op a₀ b i₀ a i = (i ≤ 64) × (a ≡ zipTo (binary-of (binaries 16
 abbrev μ-loop : tie.MeasureT-loop
 μ-loop op a₀ b i₀ a i = 64 - i
 
-lanes16-requires : tie.Need-lanes16-requires Inv-loop μ-loop
-lanes16-requires c κs = search needs
+places16-requires : tie.Need-places16-requires Inv-loop μ-loop
+places16-requires c κs = search needs
 
-pad16-requires : tie.Need-pad16-requires Inv-loop μ-loop
-pad16-requires c κs = search needs
-
-lanes16-requires-2 : tie.Need-lanes16-requires-2 Inv-loop μ-loop
-lanes16-requires-2 c κs = search needs
-
-pad16-requires-2 : tie.Need-pad16-requires-2 Inv-loop μ-loop
-pad16-requires-2 c κs = search needs
+places16-requires-2 : tie.Need-places16-requires-2 Inv-loop μ-loop
+places16-requires-2 c κs = search needs
 
 loop-holds : tie.Need-loop-holds Inv-loop μ-loop
 loop-holds c = (search needs, refl)
@@ -56,16 +50,13 @@ loop-less : tie.Need-loop-less Inv-loop μ-loop
 loop-less c = search needs
 
 loop-again : tie.Need-loop-again Inv-loop μ-loop
-loop-again c = (search needs, turn 16 56 _ _ _ (c .before .before .before .before .before .before .lanes16 .ensures) (c .before .before .before .before .lanes162 .ensures) (c .before .before .before .before .before .pad16 .ensures) (c .before .before .before .pad162 .ensures) (search needs) (c .before .before .loop .inv .1) (c .binary16 .ensures))
+loop-again c = (search needs, turn 16 56 _ _ _ (c .before .before .before .before .places16 .ensures) (c .before .before .before .places162 .ensures) (search needs) (c .before .before .loop .inv .1) (c .binary16 .ensures))
 
-cut16-requires : tie.Need-cut16-requires Inv-loop μ-loop
-cut16-requires c κs = search needs
-
-join16-requires : tie.Need-join16-requires Inv-loop μ-loop
-join16-requires c κs = search needs
+from-places16-requires : tie.Need-from-places16-requires Inv-loop μ-loop
+from-places16-requires c κs = search needs
 
 returns : tie.Need-returns Inv-loop μ-loop
-returns c = c .join16 .ensures ∙ done 16 56 _ _ _ (c .before .before .before .before .before .before .before .lanes16 .ensures) (c .before .before .before .before .before .lanes162 .ensures) (c .before .before .before .before .before .before .pad16 .ensures) (c .before .before .before .before .pad162 .ensures) (c .before .before .before .loop .i) (search needs) (c .before .before .before .loop .inv .1) (c .before .cut16 .ensures)
+returns c = c .from-places16 .ensures ∙ done 16 56 _ _ _ (c .before .before .before .before .places16 .ensures) (c .before .before .before .places162 .ensures) (c .before .before .loop .i) (search needs) (c .before .before .loop .inv .1)
 
 pub binary16-spec : {M : Type 1} → statement M
-binary16-spec = tie.close (tie.spec Inv-loop μ-loop lanes16-requires pad16-requires lanes16-requires-2 pad16-requires-2 loop-holds mul-binary16 array-read-binary16 mul-binary16-2 array-read-binary16-2 binary16-requires mul-a array-write-a add-i loop-less loop-again cut16-requires join16-requires returns)
+binary16-spec = tie.close (tie.spec Inv-loop μ-loop places16-requires places16-requires-2 loop-holds mul-binary16 array-read-binary16 mul-binary16-2 array-read-binary16-2 binary16-requires mul-a array-write-a add-i loop-less loop-again from-places16-requires returns)

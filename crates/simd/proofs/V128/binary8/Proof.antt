@@ -14,17 +14,11 @@ Inv-loop op a₀ b i₀ a i = (i ≤ 64) × (a ≡ zipTo (binary-of (take 22 (bi
 abbrev μ-loop : tie.MeasureT-loop
 μ-loop op a₀ b i₀ a i = 64 - i
 
-lanes8-requires : tie.Need-lanes8-requires Inv-loop μ-loop
-lanes8-requires c κs = search needs
+places8-requires : tie.Need-places8-requires Inv-loop μ-loop
+places8-requires c κs = search needs
 
-pad8-requires : tie.Need-pad8-requires Inv-loop μ-loop
-pad8-requires c κs = search needs
-
-lanes8-requires-2 : tie.Need-lanes8-requires-2 Inv-loop μ-loop
-lanes8-requires-2 c κs = search needs
-
-pad8-requires-2 : tie.Need-pad8-requires-2 Inv-loop μ-loop
-pad8-requires-2 c κs = search needs
+places8-requires-2 : tie.Need-places8-requires-2 Inv-loop μ-loop
+places8-requires-2 c κs = search needs
 
 loop-holds : tie.Need-loop-holds Inv-loop μ-loop
 loop-holds c = (search needs, refl)
@@ -48,16 +42,13 @@ loop-less : tie.Need-loop-less Inv-loop μ-loop
 loop-less c = search needs
 
 loop-again : tie.Need-loop-again Inv-loop μ-loop
-loop-again c = (search needs, turn 8 48 _ _ _ (c .before .before .before .before .before .before .lanes8 .ensures) (c .before .before .before .before .lanes82 .ensures) (c .before .before .before .before .before .pad8 .ensures) (c .before .before .before .pad82 .ensures) (search needs) (c .before .before .loop .inv .1) (c .binary8 .ensures))
+loop-again c = (search needs, turn 8 48 _ _ _ (c .before .before .before .before .places8 .ensures) (c .before .before .before .places82 .ensures) (search needs) (c .before .before .loop .inv .1) (c .binary8 .ensures))
 
-cut8-requires : tie.Need-cut8-requires Inv-loop μ-loop
-cut8-requires c κs = search needs
-
-join8-requires : tie.Need-join8-requires Inv-loop μ-loop
-join8-requires c κs = search needs
+from-places8-requires : tie.Need-from-places8-requires Inv-loop μ-loop
+from-places8-requires c κs = search needs
 
 returns : tie.Need-returns Inv-loop μ-loop
-returns c = c .join8 .ensures ∙ done 8 48 _ _ _ (c .before .before .before .before .before .before .before .lanes8 .ensures) (c .before .before .before .before .before .lanes82 .ensures) (c .before .before .before .before .before .before .pad8 .ensures) (c .before .before .before .before .pad82 .ensures) (c .before .before .before .loop .i) (search needs) (c .before .before .before .loop .inv .1) (c .before .cut8 .ensures)
+returns c = c .from-places8 .ensures ∙ done 8 48 _ _ _ (c .before .before .before .before .places8 .ensures) (c .before .before .before .places82 .ensures) (c .before .before .loop .i) (search needs) (c .before .before .loop .inv .1)
 
 pub binary8-spec : {M : Type 1} → statement M
-binary8-spec = tie.close (tie.spec Inv-loop μ-loop lanes8-requires pad8-requires lanes8-requires-2 pad8-requires-2 loop-holds array-read-binary8 array-read-binary8-2 binary8-requires array-write-a add-i loop-less loop-again cut8-requires join8-requires returns)
+binary8-spec = tie.close (tie.spec Inv-loop μ-loop places8-requires places8-requires-2 loop-holds array-read-binary8 array-read-binary8-2 binary8-requires array-write-a add-i loop-less loop-again from-places8-requires returns)

@@ -14,17 +14,11 @@ Inv-loop op a₀ b i₀ a i = (i ≤ 64) × (a ≡ zipTo (float-binary-of binary
 abbrev μ-loop : tie.MeasureT-loop
 μ-loop op a₀ b i₀ a i = 64 - i
 
-lanes32-requires : tie.Need-lanes32-requires Inv-loop μ-loop
-lanes32-requires c κs = search needs
+places32-requires : tie.Need-places32-requires Inv-loop μ-loop
+places32-requires c κs = search needs
 
-pad32-requires : tie.Need-pad32-requires Inv-loop μ-loop
-pad32-requires c κs = search needs
-
-lanes32-requires-2 : tie.Need-lanes32-requires-2 Inv-loop μ-loop
-lanes32-requires-2 c κs = search needs
-
-pad32-requires-2 : tie.Need-pad32-requires-2 Inv-loop μ-loop
-pad32-requires-2 c κs = search needs
+places32-requires-2 : tie.Need-places32-requires-2 Inv-loop μ-loop
+places32-requires-2 c κs = search needs
 
 loop-holds : tie.Need-loop-holds Inv-loop μ-loop
 loop-holds c = (search needs, refl)
@@ -57,16 +51,13 @@ loop-less : tie.Need-loop-less Inv-loop μ-loop
 loop-less c = search needs
 
 loop-again : tie.Need-loop-again Inv-loop μ-loop
-loop-again c = (search needs, turn 32 60 _ _ _ (c .before .before .before .before .before .before .lanes32 .ensures) (c .before .before .before .before .lanes322 .ensures) (c .before .before .before .before .before .pad32 .ensures) (c .before .before .before .pad322 .ensures) (search needs) (c .before .before .loop .inv .1) (c .float-binary32 .ensures))
+loop-again c = (search needs, turn 32 60 _ _ _ (c .before .before .before .before .places32 .ensures) (c .before .before .before .places322 .ensures) (search needs) (c .before .before .loop .inv .1) (c .float-binary32 .ensures))
 
-cut32-requires : tie.Need-cut32-requires Inv-loop μ-loop
-cut32-requires c κs = search needs
-
-join32-requires : tie.Need-join32-requires Inv-loop μ-loop
-join32-requires c κs = search needs
+from-places32-requires : tie.Need-from-places32-requires Inv-loop μ-loop
+from-places32-requires c κs = search needs
 
 returns : tie.Need-returns Inv-loop μ-loop
-returns c = c .join32 .ensures ∙ done 32 60 _ _ _ (c .before .before .before .before .before .before .before .lanes32 .ensures) (c .before .before .before .before .before .lanes322 .ensures) (c .before .before .before .before .before .before .pad32 .ensures) (c .before .before .before .before .pad322 .ensures) (c .before .before .before .loop .i) (search needs) (c .before .before .before .loop .inv .1) (c .before .cut32 .ensures)
+returns c = c .from-places32 .ensures ∙ done 32 60 _ _ _ (c .before .before .before .before .places32 .ensures) (c .before .before .before .places322 .ensures) (c .before .before .loop .i) (search needs) (c .before .before .loop .inv .1)
 
 pub float-binary32-spec : {M : Type 1} → statement M
-float-binary32-spec = tie.close (tie.spec Inv-loop μ-loop lanes32-requires pad32-requires lanes32-requires-2 pad32-requires-2 loop-holds mul-float-binary32 array-read-float-binary32 mul-float-binary32-2 array-read-float-binary32-2 float-binary32-requires mul-a array-write-a add-i loop-less loop-again cut32-requires join32-requires returns)
+float-binary32-spec = tie.close (tie.spec Inv-loop μ-loop places32-requires places32-requires-2 loop-holds mul-float-binary32 array-read-float-binary32 mul-float-binary32-2 array-read-float-binary32-2 float-binary32-requires mul-a array-write-a add-i loop-less loop-again from-places32-requires returns)

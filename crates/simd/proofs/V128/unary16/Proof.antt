@@ -13,11 +13,8 @@ Inv-loop op count a₀ i₀ a i = (i ≤ 64) × (a ≡ zipTo (λ x y. unary-of (
 abbrev μ-loop : tie.MeasureT-loop
 μ-loop op count a₀ i₀ a i = 64 - i
 
-lanes16-requires : tie.Need-lanes16-requires Inv-loop μ-loop
-lanes16-requires c κs = search needs
-
-pad16-requires : tie.Need-pad16-requires Inv-loop μ-loop
-pad16-requires c κs = search needs
+places16-requires : tie.Need-places16-requires Inv-loop μ-loop
+places16-requires c κs = search needs
 
 loop-holds : tie.Need-loop-holds Inv-loop μ-loop
 loop-holds c = (search needs, refl)
@@ -44,16 +41,13 @@ loop-less : tie.Need-loop-less Inv-loop μ-loop
 loop-less c = search needs
 
 loop-again : tie.Need-loop-again Inv-loop μ-loop
-loop-again c = (search needs, turn 16 56 _ _ _ (c .before .before .before .before .lanes16 .ensures) (c .before .before .before .before .lanes16 .ensures) (c .before .before .before .pad16 .ensures) (c .before .before .before .pad16 .ensures) (search needs) (c .before .before .loop .inv .1) (c .unary16 .ensures))
+loop-again c = (search needs, turn 16 56 _ _ _ (c .before .before .before .places16 .ensures) (c .before .before .before .places16 .ensures) (search needs) (c .before .before .loop .inv .1) (c .unary16 .ensures))
 
-cut16-requires : tie.Need-cut16-requires Inv-loop μ-loop
-cut16-requires c κs = search needs
-
-join16-requires : tie.Need-join16-requires Inv-loop μ-loop
-join16-requires c κs = search needs
+from-places16-requires : tie.Need-from-places16-requires Inv-loop μ-loop
+from-places16-requires c κs = search needs
 
 returns : tie.Need-returns Inv-loop μ-loop
-returns c = c .join16 .ensures ∙ done 16 56 _ _ _ (c .before .before .before .before .before .lanes16 .ensures) (c .before .before .before .before .before .lanes16 .ensures) (c .before .before .before .before .pad16 .ensures) (c .before .before .before .before .pad16 .ensures) (c .before .before .before .loop .i) (search needs) (c .before .before .before .loop .inv .1) (c .before .cut16 .ensures) ∙ one-list 16 _ _
+returns c = c .from-places16 .ensures ∙ done 16 56 _ _ _ (c .before .before .before .places16 .ensures) (c .before .before .before .places16 .ensures) (c .before .before .loop .i) (search needs) (c .before .before .loop .inv .1) ∙ one-list 16 _ _
 
 pub unary16-spec : {M : Type 1} → statement M
-unary16-spec = tie.close (tie.spec Inv-loop μ-loop lanes16-requires pad16-requires loop-holds mul-unary16 array-read-unary16 unary16-requires mul-a array-write-a add-i loop-less loop-again cut16-requires join16-requires returns)
+unary16-spec = tie.close (tie.spec Inv-loop μ-loop places16-requires loop-holds mul-unary16 array-read-unary16 unary16-requires mul-a array-write-a add-i loop-less loop-again from-places16-requires returns)

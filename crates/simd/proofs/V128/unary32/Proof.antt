@@ -13,11 +13,8 @@ Inv-loop op count a₀ i₀ a i = (i ≤ 64) × (a ≡ zipTo (λ x y. unary-of (
 abbrev μ-loop : tie.MeasureT-loop
 μ-loop op count a₀ i₀ a i = 64 - i
 
-lanes32-requires : tie.Need-lanes32-requires Inv-loop μ-loop
-lanes32-requires c κs = search needs
-
-pad32-requires : tie.Need-pad32-requires Inv-loop μ-loop
-pad32-requires c κs = search needs
+places32-requires : tie.Need-places32-requires Inv-loop μ-loop
+places32-requires c κs = search needs
 
 loop-holds : tie.Need-loop-holds Inv-loop μ-loop
 loop-holds c = (search needs, refl)
@@ -44,16 +41,13 @@ loop-less : tie.Need-loop-less Inv-loop μ-loop
 loop-less c = search needs
 
 loop-again : tie.Need-loop-again Inv-loop μ-loop
-loop-again c = (search needs, turn 32 60 _ _ _ (c .before .before .before .before .lanes32 .ensures) (c .before .before .before .before .lanes32 .ensures) (c .before .before .before .pad32 .ensures) (c .before .before .before .pad32 .ensures) (search needs) (c .before .before .loop .inv .1) (c .unary32 .ensures))
+loop-again c = (search needs, turn 32 60 _ _ _ (c .before .before .before .places32 .ensures) (c .before .before .before .places32 .ensures) (search needs) (c .before .before .loop .inv .1) (c .unary32 .ensures))
 
-cut32-requires : tie.Need-cut32-requires Inv-loop μ-loop
-cut32-requires c κs = search needs
-
-join32-requires : tie.Need-join32-requires Inv-loop μ-loop
-join32-requires c κs = search needs
+from-places32-requires : tie.Need-from-places32-requires Inv-loop μ-loop
+from-places32-requires c κs = search needs
 
 returns : tie.Need-returns Inv-loop μ-loop
-returns c = c .join32 .ensures ∙ done 32 60 _ _ _ (c .before .before .before .before .before .lanes32 .ensures) (c .before .before .before .before .before .lanes32 .ensures) (c .before .before .before .before .pad32 .ensures) (c .before .before .before .before .pad32 .ensures) (c .before .before .before .loop .i) (search needs) (c .before .before .before .loop .inv .1) (c .before .cut32 .ensures) ∙ one-list 32 _ _
+returns c = c .from-places32 .ensures ∙ done 32 60 _ _ _ (c .before .before .before .places32 .ensures) (c .before .before .before .places32 .ensures) (c .before .before .loop .i) (search needs) (c .before .before .loop .inv .1) ∙ one-list 32 _ _
 
 pub unary32-spec : {M : Type 1} → statement M
-unary32-spec = tie.close (tie.spec Inv-loop μ-loop lanes32-requires pad32-requires loop-holds mul-unary32 array-read-unary32 unary32-requires mul-a array-write-a add-i loop-less loop-again cut32-requires join32-requires returns)
+unary32-spec = tie.close (tie.spec Inv-loop μ-loop places32-requires loop-holds mul-unary32 array-read-unary32 unary32-requires mul-a array-write-a add-i loop-less loop-again from-places32-requires returns)

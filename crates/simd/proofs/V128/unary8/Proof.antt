@@ -13,11 +13,8 @@ Inv-loop op count a₀ i₀ a i = (i ≤ 64) × (a ≡ zipTo (λ x y. unary-of (
 abbrev μ-loop : tie.MeasureT-loop
 μ-loop op count a₀ i₀ a i = 64 - i
 
-lanes8-requires : tie.Need-lanes8-requires Inv-loop μ-loop
-lanes8-requires c κs = search needs
-
-pad8-requires : tie.Need-pad8-requires Inv-loop μ-loop
-pad8-requires c κs = search needs
+places8-requires : tie.Need-places8-requires Inv-loop μ-loop
+places8-requires c κs = search needs
 
 loop-holds : tie.Need-loop-holds Inv-loop μ-loop
 loop-holds c = (search needs, refl)
@@ -38,16 +35,13 @@ loop-less : tie.Need-loop-less Inv-loop μ-loop
 loop-less c = search needs
 
 loop-again : tie.Need-loop-again Inv-loop μ-loop
-loop-again c = (search needs, turn 8 48 _ _ _ (c .before .before .before .before .lanes8 .ensures) (c .before .before .before .before .lanes8 .ensures) (c .before .before .before .pad8 .ensures) (c .before .before .before .pad8 .ensures) (search needs) (c .before .before .loop .inv .1) (c .unary8 .ensures))
+loop-again c = (search needs, turn 8 48 _ _ _ (c .before .before .before .places8 .ensures) (c .before .before .before .places8 .ensures) (search needs) (c .before .before .loop .inv .1) (c .unary8 .ensures))
 
-cut8-requires : tie.Need-cut8-requires Inv-loop μ-loop
-cut8-requires c κs = search needs
-
-join8-requires : tie.Need-join8-requires Inv-loop μ-loop
-join8-requires c κs = search needs
+from-places8-requires : tie.Need-from-places8-requires Inv-loop μ-loop
+from-places8-requires c κs = search needs
 
 returns : tie.Need-returns Inv-loop μ-loop
-returns c = c .join8 .ensures ∙ done 8 48 _ _ _ (c .before .before .before .before .before .lanes8 .ensures) (c .before .before .before .before .before .lanes8 .ensures) (c .before .before .before .before .pad8 .ensures) (c .before .before .before .before .pad8 .ensures) (c .before .before .before .loop .i) (search needs) (c .before .before .before .loop .inv .1) (c .before .cut8 .ensures) ∙ one-list 8 _ _
+returns c = c .from-places8 .ensures ∙ done 8 48 _ _ _ (c .before .before .before .places8 .ensures) (c .before .before .before .places8 .ensures) (c .before .before .loop .i) (search needs) (c .before .before .loop .inv .1) ∙ one-list 8 _ _
 
 pub unary8-spec : {M : Type 1} → statement M
-unary8-spec = tie.close (tie.spec Inv-loop μ-loop lanes8-requires pad8-requires loop-holds array-read-unary8 unary8-requires array-write-a add-i loop-less loop-again cut8-requires join8-requires returns)
+unary8-spec = tie.close (tie.spec Inv-loop μ-loop places8-requires loop-holds array-read-unary8 unary8-requires array-write-a add-i loop-less loop-again from-places8-requires returns)

@@ -18,11 +18,8 @@ Inv-loop bits signed a out₀ i₀ out i = (i ≤ 64) × (out ≡ zipTo (λ x y.
 abbrev μ-loop : tie.MeasureT-loop
 μ-loop bits signed a out₀ i₀ out i = 64 - i
 
-lanes16-requires : tie.Need-lanes16-requires Inv-loop μ-loop
-lanes16-requires c κs = search needs
-
-pad16-requires : tie.Need-pad16-requires Inv-loop μ-loop
-pad16-requires c κs = search needs
+places16-requires : tie.Need-places16-requires Inv-loop μ-loop
+places16-requires c κs = search needs
 
 loop-holds : tie.Need-loop-holds Inv-loop μ-loop
 loop-holds c = (search needs, refl)
@@ -49,20 +46,20 @@ loop-less : tie.Need-loop-less Inv-loop μ-loop
 loop-less c = search needs
 
 loop-again : tie.Need-loop-again Inv-loop μ-loop
-loop-again c = (search needs, fill-turn 64 _ _ _ refl (places 16 56 0 _ (c .before .before .before .before .lanes16 .ensures) (c .before .before .before .pad16 .ensures)) (search needs) (c .before .before .loop .inv .1) (c .extend16 .ensures))
+loop-again c = (search needs, fill-turn 64 _ _ _ refl (places 16 56 _ (c .before .before .before .places16 .ensures)) (search needs) (c .before .before .loop .inv .1) (c .extend16 .ensures))
 
-cut32-requires : tie.Need-cut32-requires Inv-loop μ-loop
-cut32-requires c κs = search needs
-
-join32-requires : tie.Need-join32-requires Inv-loop μ-loop
-join32-requires c κs = search needs
+from-places32-requires : tie.Need-from-places32-requires Inv-loop μ-loop
+from-places32-requires c κs = search needs
 
 returns : tie.Need-returns Inv-loop μ-loop
 returns c =
-    c .join32 .ensures
-    ∙ ap (joined 32) (c .before .cut32 .ensures ∙ ap (take 4) (filled 64 _ _ _ refl (places 16 56 0 _ (c .before .before .before .before .before .lanes16 .ensures) (c .before .before .before .before .pad16 .ensures)) (c .before .before .before .loop .i) (search needs) (c .before .before .before .loop .inv .1) ∙ ap (λ (s : List ℕ). map (extends (c .before .before .before .before .before .before .args .signed) 16 32) s) (c .before .before .before .before .pad16 .ensures)))
-    ∙ ap (λ (s : List ℕ). joined 32 (take 4 (map (extends (c .before .before .before .before .before .before .args .signed) 16 32) (s ++ replicate 56 0)))) (c .before .before .before .before .before .lanes16 .ensures ∙ lanes-halves 16 4 refl refl (c .before .before .before .before .before .before .args .bits) 0 (search needs))
+    let f = extends (c .before .before .before .before .args .signed) 16 32 in
+    c .from-places32 .ensures
+    ∙ ap (λ (s : List ℕ). joined 32 (take 4 s))
+    (filled 64 f _ _ refl (places 16 56 _ (c .before .before .before .places16 .ensures)) (c .before .before .loop .i) (search needs) (c .before .before .loop .inv .1)
+    ∙ ap (map f) (c .before .before .before .places16 .ensures))
+    ∙ ap (λ (s : List ℕ). joined 32 (take 4 (map f (s ++ replicate 56 0)))) (lanes-halves 16 4 refl refl (c .before .before .before .before .args .bits) 0 (search needs))
     ∙ widened 16 _ _ refl
 
 pub widen16-spec : {M : Type 1} → statement M
-widen16-spec = tie.close (tie.spec Inv-loop μ-loop lanes16-requires pad16-requires loop-holds mul-extend16 array-read-extend16 extend16-requires mul-out array-write-out add-i loop-less loop-again cut32-requires join32-requires returns)
+widen16-spec = tie.close (tie.spec Inv-loop μ-loop places16-requires loop-holds mul-extend16 array-read-extend16 extend16-requires mul-out array-write-out add-i loop-less loop-again from-places32-requires returns)

@@ -18,11 +18,8 @@ Inv-loop bits signed a out₀ i₀ out i = (i ≤ 64) × (out ≡ zipTo (λ x y.
 abbrev μ-loop : tie.MeasureT-loop
 μ-loop bits signed a out₀ i₀ out i = 64 - i
 
-lanes8-requires : tie.Need-lanes8-requires Inv-loop μ-loop
-lanes8-requires c κs = search needs
-
-pad8-requires : tie.Need-pad8-requires Inv-loop μ-loop
-pad8-requires c κs = search needs
+places8-requires : tie.Need-places8-requires Inv-loop μ-loop
+places8-requires c κs = search needs
 
 loop-holds : tie.Need-loop-holds Inv-loop μ-loop
 loop-holds c = (search needs, refl)
@@ -46,20 +43,20 @@ loop-less : tie.Need-loop-less Inv-loop μ-loop
 loop-less c = search needs
 
 loop-again : tie.Need-loop-again Inv-loop μ-loop
-loop-again c = (search needs, fill-turn 64 _ _ _ refl (places 8 48 0 _ (c .before .before .before .before .lanes8 .ensures) (c .before .before .before .pad8 .ensures)) (search needs) (c .before .before .loop .inv .1) (c .extend8 .ensures))
+loop-again c = (search needs, fill-turn 64 _ _ _ refl (places 8 48 _ (c .before .before .before .places8 .ensures)) (search needs) (c .before .before .loop .inv .1) (c .extend8 .ensures))
 
-cut16-requires : tie.Need-cut16-requires Inv-loop μ-loop
-cut16-requires c κs = search needs
-
-join16-requires : tie.Need-join16-requires Inv-loop μ-loop
-join16-requires c κs = search needs
+from-places16-requires : tie.Need-from-places16-requires Inv-loop μ-loop
+from-places16-requires c κs = search needs
 
 returns : tie.Need-returns Inv-loop μ-loop
 returns c =
-    c .join16 .ensures
-    ∙ ap (joined 16) (c .before .cut16 .ensures ∙ ap (take 8) (filled 64 _ _ _ refl (places 8 48 0 _ (c .before .before .before .before .before .lanes8 .ensures) (c .before .before .before .before .pad8 .ensures)) (c .before .before .before .loop .i) (search needs) (c .before .before .before .loop .inv .1) ∙ ap (λ (s : List ℕ). map (extends (c .before .before .before .before .before .before .args .signed) 8 16) s) (c .before .before .before .before .pad8 .ensures)))
-    ∙ ap (λ (s : List ℕ). joined 16 (take 8 (map (extends (c .before .before .before .before .before .before .args .signed) 8 16) (s ++ replicate 48 0)))) (c .before .before .before .before .before .lanes8 .ensures ∙ lanes-halves 8 8 refl refl (c .before .before .before .before .before .before .args .bits) 0 (search needs))
+    let f = extends (c .before .before .before .before .args .signed) 8 16 in
+    c .from-places16 .ensures
+    ∙ ap (λ (s : List ℕ). joined 16 (take 8 s))
+    (filled 64 f _ _ refl (places 8 48 _ (c .before .before .before .places8 .ensures)) (c .before .before .loop .i) (search needs) (c .before .before .loop .inv .1)
+    ∙ ap (map f) (c .before .before .before .places8 .ensures))
+    ∙ ap (λ (s : List ℕ). joined 16 (take 8 (map f (s ++ replicate 48 0)))) (lanes-halves 8 8 refl refl (c .before .before .before .before .args .bits) 0 (search needs))
     ∙ widened 8 _ _ refl
 
 pub widen8-spec : {M : Type 1} → statement M
-widen8-spec = tie.close (tie.spec Inv-loop μ-loop lanes8-requires pad8-requires loop-holds array-read-extend8 extend8-requires mul-out array-write-out add-i loop-less loop-again cut16-requires join16-requires returns)
+widen8-spec = tie.close (tie.spec Inv-loop μ-loop places8-requires loop-holds array-read-extend8 extend8-requires mul-out array-write-out add-i loop-less loop-again from-places16-requires returns)

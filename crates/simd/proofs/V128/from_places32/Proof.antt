@@ -1,12 +1,13 @@
--- `simd::cut32` meets its contract: a loop that copies the lanes. Assumes nothing.
+-- `simd::V128::from_places32` meets its contract: a loop that copies the lanes. Assumes nothing.
 use borrow.Author.Needs.{needs}
 use Prim.Native.Nat.{ℕ, _≤_, _-_}
 use mathlib.Core.Path.{_≡_, refl, ap, _∙_}
 use mathlib.Core.List.{append-nil}
 use lib.ListN.{length, replicate, take}
+use Rattle.standard.specs.Lanes.{joined}
 use Rattle.standard.proofs.Loop.{zipTo, copy-turn, copy-done}
-use Rattle.simd.proofs.cut32.Statement.{statement}
-use Rattle.simd.proofs.cut32.Tie as tie
+use Rattle.simd.proofs.V128.from_places32.Statement.{statement}
+use Rattle.simd.proofs.V128.from_places32.Tie as tie
 
 abbrev Inv-loop : tie.InvT-loop
 Inv-loop s r₀ i₀ r i = (i ≤ 4) × (r ≡ zipTo (λ x y. y) i r₀ s)
@@ -38,8 +39,13 @@ loop-less c = search needs
 loop-again : tie.Need-loop-again Inv-loop μ-loop
 loop-again c = (search needs, copy-turn 4 (replicate 4 0) (c .before .before .args .t1) (search needs) (search needs) (search needs) (c .before .loop .inv .1))
 
-returns : tie.Need-returns Inv-loop μ-loop
-returns c = copy-done 4 (replicate 4 0) (c .before .before .args .t1) (search needs) (search needs) (c .before .loop .i) (search needs) (c .before .loop .inv .1) ∙ append-nil _
+join32-requires : tie.Need-join32-requires Inv-loop μ-loop
+join32-requires c κs = search needs
 
-pub cut32-spec : {M : Type 1} → statement M
-cut32-spec = tie.close (tie.spec Inv-loop μ-loop loop-holds mul-r array-read-r mul-r-2 array-write-r add-i loop-less loop-again returns)
+returns : tie.Need-returns Inv-loop μ-loop
+returns c =
+    c .join32 .ensures
+    ∙ ap (joined 32) (copy-done 4 (replicate 4 0) (c .before .before .before .args .t1) (search needs) (search needs) (c .before .before .loop .i) (search needs) (c .before .before .loop .inv .1) ∙ append-nil (take 4 (c .before .before .before .args .t1)))
+
+pub from-places32-spec : {M : Type 1} → statement M
+from-places32-spec = tie.close (tie.spec Inv-loop μ-loop loop-holds mul-r array-read-r mul-r-2 array-write-r add-i loop-less loop-again join32-requires returns)

@@ -1,12 +1,13 @@
--- `simd::cut16` meets its contract: a loop that copies the lanes. Assumes nothing.
+-- `simd::V128::from_places16` meets its contract: a loop that copies the lanes. Assumes nothing.
 use borrow.Author.Needs.{needs}
 use Prim.Native.Nat.{ℕ, _≤_, _-_}
 use mathlib.Core.Path.{_≡_, refl, ap, _∙_}
 use mathlib.Core.List.{append-nil}
 use lib.ListN.{length, replicate, take}
+use Rattle.standard.specs.Lanes.{joined}
 use Rattle.standard.proofs.Loop.{zipTo, copy-turn, copy-done}
-use Rattle.simd.proofs.cut16.Statement.{statement}
-use Rattle.simd.proofs.cut16.Tie as tie
+use Rattle.simd.proofs.V128.from_places16.Statement.{statement}
+use Rattle.simd.proofs.V128.from_places16.Tie as tie
 
 abbrev Inv-loop : tie.InvT-loop
 Inv-loop s r₀ i₀ r i = (i ≤ 8) × (r ≡ zipTo (λ x y. y) i r₀ s)
@@ -38,8 +39,13 @@ loop-less c = search needs
 loop-again : tie.Need-loop-again Inv-loop μ-loop
 loop-again c = (search needs, copy-turn 8 (replicate 8 0) (c .before .before .args .t1) (search needs) (search needs) (search needs) (c .before .loop .inv .1))
 
-returns : tie.Need-returns Inv-loop μ-loop
-returns c = copy-done 8 (replicate 8 0) (c .before .before .args .t1) (search needs) (search needs) (c .before .loop .i) (search needs) (c .before .loop .inv .1) ∙ append-nil _
+join16-requires : tie.Need-join16-requires Inv-loop μ-loop
+join16-requires c κs = search needs
 
-pub cut16-spec : {M : Type 1} → statement M
-cut16-spec = tie.close (tie.spec Inv-loop μ-loop loop-holds mul-r array-read-r mul-r-2 array-write-r add-i loop-less loop-again returns)
+returns : tie.Need-returns Inv-loop μ-loop
+returns c =
+    c .join16 .ensures
+    ∙ ap (joined 16) (copy-done 8 (replicate 8 0) (c .before .before .before .args .t1) (search needs) (search needs) (c .before .before .loop .i) (search needs) (c .before .before .loop .inv .1) ∙ append-nil (take 8 (c .before .before .before .args .t1)))
+
+pub from-places16-spec : {M : Type 1} → statement M
+from-places16-spec = tie.close (tie.spec Inv-loop μ-loop loop-holds mul-r array-read-r mul-r-2 array-write-r add-i loop-less loop-again join16-requires returns)
