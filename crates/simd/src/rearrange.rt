@@ -45,12 +45,13 @@ fn all_legal(s: [u8; 16]) -> bool
 }
 
 impl V128 {
-    // "An index of 16 to 255 gives 0": the byte after the sixteen, which 16 names.
+    // "An index of 16 to 255 gives 0": held to 16, it names the first zero after the sixteen bytes.
     pub fn i8x16_swizzle(self, s: V128) -> V128
         ensures { λ r. ⌜ number r ≡ swizzle (number self) (number s) ⌝ }
     {
+        let t = self.lanes8();
         let indices = s.i8x16_min_u(V128::splat8(16));
-        V128::picked(beside(self.lanes8(), [0; 16]), indices.lanes8())
+        V128::picked(beside(t, [0; 16]), indices.lanes8())
     }
 
     // The bytes of the table that the indices name modulo 32: an index that is none of its table's is refused before.

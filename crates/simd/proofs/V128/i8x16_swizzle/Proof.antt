@@ -7,14 +7,14 @@ use Rattle.standard.proofs.Rearrange.{swizzle-is}
 use Rattle.simd.proofs.V128.i8x16_swizzle.Statement.{statement}
 use Rattle.simd.proofs.V128.i8x16_swizzle.Tie as tie
 
+lanes8-requires : tie.Need-lanes8-requires
+lanes8-requires c κs = search needs
+
 splat8-requires : tie.Need-splat8-requires
 splat8-requires c κs = search needs
 
 i8x16-min-u-requires : tie.Need-i8x16-min-u-requires
 i8x16-min-u-requires c κs = search needs
-
-lanes8-requires : tie.Need-lanes8-requires
-lanes8-requires c κs = search needs
 
 beside-requires : tie.Need-beside-requires
 beside-requires c κs = search needs
@@ -28,8 +28,8 @@ picked-requires c κs = search needs
 returns : tie.Need-returns
 returns c =
     c .picked .ensures
-    ∙ swizzle-is _ _ (c .before .before .beside .ensures) (c .before .before .before .lanes8 .ensures) (c .before .lanes82 .ensures)
-    (c .before .before .before .before .i8x16-min-u .ensures ∙ ap (binary 8 (imin-u 8) _) (c .before .before .before .before .before .splat8 .ensures))
+    ∙ swizzle-is _ _ (c .before .before .beside .ensures) (c .before .before .before .before .before .lanes8 .ensures) (c .before .lanes82 .ensures)
+    (c .before .before .before .i8x16-min-u .ensures ∙ ap (binary 8 (imin-u 8) _) (c .before .before .before .before .splat8 .ensures))
 
 pub i8x16-swizzle-spec : {M : Type 1} → statement M
-i8x16-swizzle-spec = tie.close (tie.spec splat8-requires i8x16-min-u-requires lanes8-requires beside-requires lanes8-requires-2 picked-requires returns)
+i8x16-swizzle-spec = tie.close (tie.spec lanes8-requires splat8-requires i8x16-min-u-requires beside-requires lanes8-requires-2 picked-requires returns)
