@@ -6,6 +6,9 @@ ghost use lib.ListN.{length};
 ghost use Rattle.standard.specs.Memory.{within, number-at, with-number, load, store, stored};
 ghost use Rattle.access.specs.Access.{effective, access-answer, put-answer, fetched8, fetched16, fetched32, fetched64, fetched128};
 
+// Refusal 7: "access past the end".
+pub const PAST: u8 = 7;
+
 // An effective address: "pointer p with offset o", whose exact sum may pass 2^64, or the address of an `_at` form.
 pub enum Effective {
     Sum(u64, u64),

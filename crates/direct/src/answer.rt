@@ -7,9 +7,9 @@ use simd::answer::F32Answer;
 use simd::answer::F64Answer;
 use simd::answer::I32Answer;
 use simd::answer::I64Answer;
-use simd::answer::StoreAnswer;
 use simd::answer::U32Answer;
 use simd::answer::VectorAnswer;
+use stores::StoreAnswer;
 
 // No such function here, or no request to answer.
 const NONE: u8 = 255;

@@ -6,8 +6,16 @@ mod text;
 
 use calculator::run::run;
 use calculator::state::State;
+use libc::STDERR_FILENO;
 
 fn main() {
+    if os::arg_count() > 1 {
+        io::write_all(
+            STDERR_FILENO,
+            b"lanes: takes no arguments, it reads a step list from standard input: ./lanes < LIST\n",
+        );
+        return;
+    }
     // "list length not a multiple of 32, or above 8,192": one byte above decides, so no more than that is read.
     let mut list = [0u8; 8193];
     let reading = input::read_to(&mut list);

@@ -1,8 +1,7 @@
 -- Any two results that a promise allows coincide. A promise gives the number of the vector, or an answer's refusal or bits; halves are below 2^64 and
 -- a signed number is within its width, as of every value of the code.
 -- Assumes nothing.
-use mathlib.Core.Path.{_≡_, refl, sym, ap, _∙_}
-use mathlib.Core.List.{List}
+use mathlib.Core.Path.{_≡_, sym, ap, _∙_}
 use Prim.Native.Nat.{ℕ, _/_, _%_, _^_, _<_}
 use native.Mathlib.Omega.{arith}
 use lib.IntN.{ℤ}
@@ -11,7 +10,6 @@ use mir.Val.{SFits, bits, toZ}
 use mir.Facts.{toZ-ofZ}
 use Rattle.standard.specs.Integer.{modulo}
 use Rattle.standard.specs.Refusal.{Answer, given, refused}
-use Rattle.standard.specs.Memory.{written, kept}
 use Rattle.standard.proofs.Digits.{low-digit, rest-digits}
 use Rattle.lane.proofs.Signed.{modulo-is}
 use Rattle.simd.specs.declared.V128.{V128}
@@ -19,9 +17,8 @@ use Rattle.simd.specs.declared.answer.VectorAnswer.{VectorAnswer}
 use Rattle.simd.specs.declared.answer.I32Answer.{I32Answer}
 use Rattle.simd.specs.declared.answer.U32Answer.{U32Answer}
 use Rattle.simd.specs.declared.answer.I64Answer.{I64Answer}
-use Rattle.simd.specs.declared.answer.StoreAnswer.{StoreAnswer}
 use Rattle.simd.specs.Number.{number}
-use Rattle.simd.specs.Answer.{vector-answer, i32-answer, u32-answer, i64-answer, store-answer}
+use Rattle.simd.specs.Answer.{vector-answer, i32-answer, u32-answer, i64-answer}
 
 -- a vector's halves are below 2^64
 pub record Held (v : V128) : Type 0 where
@@ -86,13 +83,3 @@ u32-answers-coincide (U32Answer.Value i) (U32Answer.Value j) e = ap U32Answer.Va
 u32-answers-coincide (U32Answer.Value i) (U32Answer.Refused n) e = never e
 u32-answers-coincide (U32Answer.Refused m) (U32Answer.Value j) e = never (sym e)
 u32-answers-coincide (U32Answer.Refused m) (U32Answer.Refused n) e = ap U32Answer.Refused (same-refusal e)
-
--- a store's answer, and the memory that it leaves
-kept-or-written : {X : Type 0} {n : ℕ} {l m : List ℕ} → written l ≡ kept n m → X
-kept-or-written e = let z : _≡_ {A = ℕ} 0 1 = cc in absurd (omega arith)
-
-pub store-answers-coincide : (a b : StoreAnswer) (l m : List ℕ) → store-answer a l ≡ store-answer b m → (a ≡ b) × (l ≡ m)
-store-answers-coincide StoreAnswer.Done StoreAnswer.Done l m e = (refl, cc)
-store-answers-coincide StoreAnswer.Done (StoreAnswer.Refused n) l m e = kept-or-written e
-store-answers-coincide (StoreAnswer.Refused n) StoreAnswer.Done l m e = kept-or-written (sym e)
-store-answers-coincide (StoreAnswer.Refused n) (StoreAnswer.Refused k) l m e = (cc, cc)

@@ -1,9 +1,7 @@
 -- What an answer of the code stands for: document 01's number where it is a refusal, else the value as its bits.
 use Prim.Native.Nat.{ℕ}
-use mathlib.Core.List.{List}
 use Rattle.standard.specs.Integer.{modulo}
 use Rattle.standard.specs.Refusal.{Answer, given, refused}
-use Rattle.standard.specs.Memory.{Stored, written, kept}
 use Rattle.lane.specs.Scalar.{f32-bits, f64-bits}
 use Rattle.simd.specs.Number.{number}
 use Rattle.simd.specs.declared.answer.VectorAnswer.{VectorAnswer}
@@ -12,7 +10,6 @@ use Rattle.simd.specs.declared.answer.U32Answer.{U32Answer}
 use Rattle.simd.specs.declared.answer.I64Answer.{I64Answer}
 use Rattle.simd.specs.declared.answer.F32Answer.{F32Answer}
 use Rattle.simd.specs.declared.answer.F64Answer.{F64Answer}
-use Rattle.simd.specs.declared.answer.StoreAnswer.{StoreAnswer}
 
 abbrev pub vector-answer : VectorAnswer → Answer ℕ
 vector-answer (VectorAnswer.Vector v) = given (number v)
@@ -37,8 +34,3 @@ f32-answer (F32Answer.Refused n) = refused n
 abbrev pub f64-answer : F64Answer → Answer ℕ
 f64-answer (F64Answer.Value x) = given (f64-bits x)
 f64-answer (F64Answer.Refused n) = refused n
-
--- A store's answer with the memory that it leaves.
-abbrev pub store-answer : StoreAnswer → List ℕ → Stored
-store-answer StoreAnswer.Done after = written after
-store-answer (StoreAnswer.Refused n) after = kept n after

@@ -9,9 +9,6 @@ pub const LANE: u8 = 4;
 // Refusal 5: "a shuffle index above 31".
 pub const INDEX: u8 = 5;
 
-// Refusal 7: "access past the end".
-pub const PAST: u8 = 7;
-
 pub enum VectorAnswer {
     Vector(V128),
     Refused(u8),
@@ -39,11 +36,5 @@ pub enum F32Answer {
 
 pub enum F64Answer {
     Value(F64),
-    Refused(u8),
-}
-
-// Of a store: what it wrote is in the memory that it was lent.
-pub enum StoreAnswer {
-    Done,
     Refused(u8),
 }

@@ -6,7 +6,6 @@ pub mod bitwise;
 pub mod compare;
 pub mod extract;
 pub mod float;
-pub mod memory;
 pub mod rearrange;
 pub mod reduce;
 pub mod replace;
@@ -337,22 +336,26 @@ impl V128 {
         V128::from_places32(a)
     }
 
-    fn splat8(x: u8) -> V128
+    // Lanes as unsigned numbers: every lane one number, the lane at a number (0 where there is none), and a vector with one lane changed.
+    pub fn splat8(x: u8) -> V128
         ensures { λ r. ⌜ number r ≡ splat 8 x ⌝ }
     {
         V128::join8([x; 16])
     }
 
-    fn lane8(self, lane: u8) -> u8
-        requires { ⌜ lane < 16 ⌝ }
+    pub fn lane8(self, lane: u8) -> u8
         ensures { λ r. ⌜ r ≡ extract 8 (number self) lane ⌝ }
     {
-        let i = lane as usize;
-        let a = self.lanes8();
-        a[i]
+        if lane < 16 {
+            let i = lane as usize;
+            let a = self.lanes8();
+            a[i]
+        } else {
+            0
+        }
     }
 
-    fn replace8(self, lane: u8, x: u8) -> VectorAnswer
+    pub fn replace8(self, lane: u8, x: u8) -> VectorAnswer
         ensures { λ r. ⌜ vector-answer r ≡ at-lane 8 lane (replace 8 (number self) lane x) ⌝ }
     {
         if lane < 16 {
@@ -365,22 +368,25 @@ impl V128 {
         }
     }
 
-    fn splat16(x: u16) -> V128
+    pub fn splat16(x: u16) -> V128
         ensures { λ r. ⌜ number r ≡ splat 16 x ⌝ }
     {
         V128::join16([x; 8])
     }
 
-    fn lane16(self, lane: u8) -> u16
-        requires { ⌜ lane < 8 ⌝ }
+    pub fn lane16(self, lane: u8) -> u16
         ensures { λ r. ⌜ r ≡ extract 16 (number self) lane ⌝ }
     {
-        let i = lane as usize;
-        let a = self.lanes16();
-        a[i]
+        if lane < 8 {
+            let i = lane as usize;
+            let a = self.lanes16();
+            a[i]
+        } else {
+            0
+        }
     }
 
-    fn replace16(self, lane: u8, x: u16) -> VectorAnswer
+    pub fn replace16(self, lane: u8, x: u16) -> VectorAnswer
         ensures { λ r. ⌜ vector-answer r ≡ at-lane 16 lane (replace 16 (number self) lane x) ⌝ }
     {
         if lane < 8 {
@@ -393,22 +399,25 @@ impl V128 {
         }
     }
 
-    fn splat32(x: u32) -> V128
+    pub fn splat32(x: u32) -> V128
         ensures { λ r. ⌜ number r ≡ splat 32 x ⌝ }
     {
         V128::join32([x; 4])
     }
 
-    fn lane32(self, lane: u8) -> u32
-        requires { ⌜ lane < 4 ⌝ }
+    pub fn lane32(self, lane: u8) -> u32
         ensures { λ r. ⌜ r ≡ extract 32 (number self) lane ⌝ }
     {
-        let i = lane as usize;
-        let a = self.lanes32();
-        a[i]
+        if lane < 4 {
+            let i = lane as usize;
+            let a = self.lanes32();
+            a[i]
+        } else {
+            0
+        }
     }
 
-    fn replace32(self, lane: u8, x: u32) -> VectorAnswer
+    pub fn replace32(self, lane: u8, x: u32) -> VectorAnswer
         ensures { λ r. ⌜ vector-answer r ≡ at-lane 32 lane (replace 32 (number self) lane x) ⌝ }
     {
         if lane < 4 {
@@ -421,20 +430,25 @@ impl V128 {
         }
     }
 
-    fn splat64(x: u64) -> V128
+    pub fn splat64(x: u64) -> V128
         ensures { λ r. ⌜ number r ≡ splat 64 x ⌝ }
     {
         V128 { lo: x, hi: x }
     }
 
-    fn lane64(self, lane: u8) -> u64
-        requires { ⌜ lane < 2 ⌝ }
+    pub fn lane64(self, lane: u8) -> u64
         ensures { λ r. ⌜ r ≡ extract 64 (number self) lane ⌝ }
     {
-        if lane == 0 { self.lo } else { self.hi }
+        if lane == 0 {
+            self.lo
+        } else if lane == 1 {
+            self.hi
+        } else {
+            0
+        }
     }
 
-    fn replace64(self, lane: u8, x: u64) -> VectorAnswer
+    pub fn replace64(self, lane: u8, x: u64) -> VectorAnswer
         ensures { λ r. ⌜ vector-answer r ≡ at-lane 64 lane (replace 64 (number self) lane x) ⌝ }
     {
         if lane == 0 {

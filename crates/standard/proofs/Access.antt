@@ -1,14 +1,14 @@
 -- Splat, extract and replace in terms of the list of lanes, and a lane number that is judged.
 -- Assumes nothing.
-use mathlib.Core.Path.{_≡_, refl, sym, ap, ap₂, _∙_}
+use mathlib.Core.Path.{_≡_, refl, sym, ap, ap₂, _∙_, subst⁻¹}
 use mathlib.Core.List.{List, [], _∷_}
 use Prim.Native.Nat.{ℕ, _+_, _*_, _/_, _^_, _<_, _≤_}
 use native.Mathlib.Nat.{add-zero, mod-eq-of-lt}
 use borrow.Author.Tests.{lt-ltb, le-ltb}
-use lib.ListN.{getD, set, replicate}
+use lib.ListN.{getD, set, replicate, List·getD-eq-default}
 use Rattle.standard.specs.Lanes.{joined, lanes, splat, extract, replace}
 use Rattle.standard.specs.Refusal.{Answer, given, refused, lane-first, at-lane}
-use Rattle.standard.proofs.Digits.{low-digit, rest-digits}
+use Rattle.standard.proofs.Digits.{length-digits, low-digit, rest-digits}
 
 pub splat-is : (w c : ℕ) → joined w (replicate (128 / w) c) ≡ splat w c
 unfolding splat
@@ -17,6 +17,10 @@ splat-is w c = refl
 pub extract-is : (w x i : ℕ) {xs : List ℕ} → xs ≡ lanes w x → getD xs i 0 ≡ extract w x i
 unfolding extract
 extract-is w x i e = ap (λ (xs : List ℕ). getD xs i 0) e
+
+pub extract-past : (w x i : ℕ) → 128 / w ≤ i → 0 ≡ extract w x i
+unfolding extract
+extract-past w x i h = sym (List·getD-eq-default (lanes w x) 0 (subst⁻¹ (λ (n : ℕ). n ≤ i) (length-digits w (128 / w) x) h))
 
 pub replace-is : (w x i c : ℕ) {xs : List ℕ} → xs ≡ lanes w x → joined w (set xs i c) ≡ replace w x i c
 unfolding replace

@@ -1,0 +1,38 @@
+-- `loads::lane16_from` meets its contract. Assumes nothing.
+use borrow.Author.Needs.{needs}
+use Rattle.access.proofs.Shapes.{lane-loaded, lane-unloaded, lane-not-loaded}
+use Rattle.loads.proofs.lane16_from.Statement.{statement}
+use Rattle.loads.proofs.lane16_from.Tie as tie
+
+returns : tie.Need-returns
+returns c = lane-not-loaded _ _ _ 16 _ (c .if1 .taken)
+
+fetch16-requires : tie.Need-fetch16-requires
+fetch16-requires c κs = search needs
+
+enum-known-x : tie.Need-enum-known-x
+enum-known-x c = search needs
+
+enum-told : tie.Need-enum-told
+enum-told c = search needs
+
+returns-2 : tie.Need-returns-2
+returns-2 c = lane-unloaded _ _ _ 16 _ (c .before .before .before .if1 .left) (rw (c .enum-told .given .1) at (c .before .before .fetch16 .ensures))
+
+replace16-requires : tie.Need-replace16-requires
+replace16-requires c κs = search needs
+
+returns-3 : tie.Need-returns-3
+returns-3 c = lane-loaded _ _ _ 16 _ (rw (c .before .before .x .given .1) at (c .before .before .before .before .fetch16 .ensures)) (c .replace16 .ensures)
+
+pub lane16-from-spec : {M : Type 1} → statement M
+lane16-from-spec =
+    tie.close
+    (tie.spec
+    returns
+    fetch16-requires
+    enum-known-x
+    enum-told
+    returns-2
+    replace16-requires
+    returns-3)

@@ -1,0 +1,38 @@
+-- `loads::lane32_from` meets its contract. Assumes nothing.
+use borrow.Author.Needs.{needs}
+use Rattle.access.proofs.Shapes.{lane-loaded, lane-unloaded, lane-not-loaded}
+use Rattle.loads.proofs.lane32_from.Statement.{statement}
+use Rattle.loads.proofs.lane32_from.Tie as tie
+
+returns : tie.Need-returns
+returns c = lane-not-loaded _ _ _ 32 _ (c .if1 .taken)
+
+fetch32-requires : tie.Need-fetch32-requires
+fetch32-requires c κs = search needs
+
+enum-known-x : tie.Need-enum-known-x
+enum-known-x c = search needs
+
+enum-told : tie.Need-enum-told
+enum-told c = search needs
+
+returns-2 : tie.Need-returns-2
+returns-2 c = lane-unloaded _ _ _ 32 _ (c .before .before .before .if1 .left) (rw (c .enum-told .given .1) at (c .before .before .fetch32 .ensures))
+
+replace32-requires : tie.Need-replace32-requires
+replace32-requires c κs = search needs
+
+returns-3 : tie.Need-returns-3
+returns-3 c = lane-loaded _ _ _ 32 _ (rw (c .before .before .x .given .1) at (c .before .before .before .before .fetch32 .ensures)) (c .replace32 .ensures)
+
+pub lane32-from-spec : {M : Type 1} → statement M
+lane32-from-spec =
+    tie.close
+    (tie.spec
+    returns
+    fetch32-requires
+    enum-known-x
+    enum-told
+    returns-2
+    replace32-requires
+    returns-3)

@@ -1,0 +1,38 @@
+-- `loads::lane64_from` meets its contract. Assumes nothing.
+use borrow.Author.Needs.{needs}
+use Rattle.access.proofs.Shapes.{lane-loaded, lane-unloaded, lane-not-loaded}
+use Rattle.loads.proofs.lane64_from.Statement.{statement}
+use Rattle.loads.proofs.lane64_from.Tie as tie
+
+returns : tie.Need-returns
+returns c = lane-not-loaded _ _ _ 64 _ (c .if1 .taken)
+
+fetch64-requires : tie.Need-fetch64-requires
+fetch64-requires c κs = search needs
+
+enum-known-x : tie.Need-enum-known-x
+enum-known-x c = search needs
+
+enum-told : tie.Need-enum-told
+enum-told c = search needs
+
+returns-2 : tie.Need-returns-2
+returns-2 c = lane-unloaded _ _ _ 64 _ (c .before .before .before .if1 .left) (rw (c .enum-told .given .1) at (c .before .before .fetch64 .ensures))
+
+replace64-requires : tie.Need-replace64-requires
+replace64-requires c κs = search needs
+
+returns-3 : tie.Need-returns-3
+returns-3 c = lane-loaded _ _ _ 64 _ (rw (c .before .before .x .given .1) at (c .before .before .before .before .fetch64 .ensures)) (c .replace64 .ensures)
+
+pub lane64-from-spec : {M : Type 1} → statement M
+lane64-from-spec =
+    tie.close
+    (tie.spec
+    returns
+    fetch64-requires
+    enum-known-x
+    enum-told
+    returns-2
+    replace64-requires
+    returns-3)

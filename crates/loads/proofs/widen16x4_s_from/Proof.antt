@@ -1,0 +1,29 @@
+-- `loads::widen16x4_s_from` meets its contract. Assumes nothing.
+use borrow.Author.Needs.{needs}
+use Rattle.standard.specs.Integer.{extend-s}
+use Rattle.access.proofs.Shapes.{widened, unwidened}
+use Rattle.loads.proofs.widen16x4_s_from.Statement.{statement}
+use Rattle.loads.proofs.widen16x4_s_from.Tie as tie
+
+fetch64-requires : tie.Need-fetch64-requires
+fetch64-requires c κs = search needs
+
+enum-known-x : tie.Need-enum-known-x
+enum-known-x c = search needs
+
+enum-told : tie.Need-enum-told
+enum-told c = search needs
+
+returns : tie.Need-returns
+returns c = unwidened _ _ extend-s 16 (rw (c .enum-told .given .1) at (c .before .before .fetch64 .ensures))
+
+v128-widen16x4-s-requires : tie.Need-v128-widen16x4-s-requires
+v128-widen16x4-s-requires c κs = search needs
+
+returns-2 : tie.Need-returns-2
+returns-2 c = widened _ _ extend-s 16 (rw (c .before .before .x .given .1) at (c .before .before .before .before .fetch64 .ensures)) (c .v128-widen16x4-s .ensures)
+
+pub widen16x4-s-from-spec : {M : Type 1} → statement M
+widen16x4-s-from-spec =
+    tie.close
+    (tie.spec fetch64-requires enum-known-x enum-told returns v128-widen16x4-s-requires returns-2)
