@@ -1,4 +1,1 @@
-pub mod Lanewise
-pub mod LanewiseFloat
-pub mod Scalar
 pub mod Widen

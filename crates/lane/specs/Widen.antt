@@ -1,7 +1,7 @@
--- Signed or unsigned, by a flag.
-use Prim.Native.Nat.{ℕ}
+-- What functions over lanes of two widths promise: signed or unsigned by a flag, and sums over the two halves of a lane.
+use Prim.Native.Nat.{ℕ, _*_, _/_, _%_, _^_}
 use mathlib.Core.Bool.{Bool, true, false}
-use Rattle.standard.specs.Integer.{extend-u, extend-s, narrow-u, narrow-s}
+use Rattle.standard.specs.Integer.{iadd, imul, extend-u, extend-s, narrow-u, narrow-s}
 
 abbrev pub extends : Bool → ℕ → ℕ → ℕ → ℕ
 extends true = extend-s
@@ -10,3 +10,12 @@ extends false = extend-u
 abbrev pub narrows : Bool → ℕ → ℕ → ℕ → ℕ
 narrows true = narrow-s
 narrows false = narrow-u
+
+-- The two lanes of half the width in a lane, extended: their sum, and the sum of their products with those of another.
+abbrev pub pair-sum : (ℕ → ℕ → ℕ → ℕ) → ℕ → ℕ → ℕ
+pair-sum sx w a = iadd (2 * w) (sx w (2 * w) (a % 2 ^ w)) (sx w (2 * w) (a / 2 ^ w))
+
+abbrev pub pair-product : ℕ → ℕ → ℕ → ℕ
+pair-product w a b =
+    iadd (2 * w) (imul (2 * w) (extend-s w (2 * w) (a % 2 ^ w)) (extend-s w (2 * w) (b % 2 ^ w)))
+    (imul (2 * w) (extend-s w (2 * w) (a / 2 ^ w)) (extend-s w (2 * w) (b / 2 ^ w)))

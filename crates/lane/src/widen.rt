@@ -1,8 +1,7 @@
 // Lanes of one width from those of half or twice the width: extending, narrowing, and the sums over the two halves of a lane.
 ghost use mathlib.Core.Path.{_≡_};
 ghost use Rattle.standard.specs.Integer.{extend-u, extend-s, narrow-u, narrow-s};
-ghost use Rattle.lane.specs.Lanewise.{pair-sum, pair-product};
-ghost use Rattle.lane.specs.Widen.{extends, narrows};
+ghost use Rattle.lane.specs.Widen.{extends, narrows, pair-sum, pair-product};
 use crate::arithmetic::mul32;
 use crate::reinterpret::signed8;
 use crate::reinterpret::signed16;

@@ -2,7 +2,7 @@
 use Prim.Native.Nat.{ℕ}
 use Rattle.standard.specs.Integer.{modulo}
 use Rattle.standard.specs.Instruction.{Kind, i32, i64, f32, f64}
-use Rattle.lane.specs.Scalar.{f32-bits, f64-bits}
+use Rattle.float_lane.specs.Scalar.{f32-bits, f64-bits}
 use Rattle.operation.specs.declared.scalar.Scalar.{Scalar}
 
 abbrev pub kind-of : Scalar → Kind

@@ -3,8 +3,8 @@
 ghost use mathlib.Core.Path.{_≡_};
 ghost use Rattle.standard.specs.Instruction.{kind-number};
 ghost use Rattle.operation.specs.Scalar.{kind-of, bits-of};
-use lane::float::F32;
-use lane::float::F64;
+use float_lane::F32;
+use float_lane::F64;
 use lane::reinterpret::unsigned32;
 use lane::reinterpret::unsigned64;
 

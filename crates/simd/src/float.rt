@@ -5,7 +5,7 @@ ghost use Rattle.standard.specs.Float.{feq, fne, flt, fgt, fle, fge, fneg, fabs
 ghost use Rattle.standard.specs.Lanes.{unary, binary};
 ghost use Rattle.simd.specs.Number.{number};
 use crate::V128;
-use lane::lanewise_float::*;
+use lanewise::float::*;
 
 impl V128 {
     pub fn f32x4_eq(self, rhs: V128) -> V128

@@ -20,8 +20,8 @@ ghost use lib.Ieee.{binary32, binary64};
 ghost use lib.ListN.{take, replicate};
 ghost use Rattle.standard.specs.Lanes.{digits, joined, lanes, unary, binary, splat, extract, replace};
 ghost use Rattle.standard.specs.Refusal.{at-lane};
-ghost use Rattle.lane.specs.Lanewise.{unaries, unaries8, unaries16, unaries32, binaries, binaries32, unary-of, binary-of};
-ghost use Rattle.lane.specs.LanewiseFloat.{float-unary-of, float-binary-of};
+ghost use Rattle.lanewise.specs.Lanewise.{unaries, unaries8, unaries16, unaries32, binaries, binaries32, unary-of, binary-of};
+ghost use Rattle.lanewise.specs.LanewiseFloat.{float-unary-of, float-binary-of};
 ghost use Rattle.simd.specs.Number.{number};
 ghost use Rattle.simd.specs.Answer.{vector-answer};
 use answer::LANE;
@@ -185,7 +185,7 @@ impl V128 {
     {
         let mut a = self.places8();
         for i in 0..64 {
-            a[i] = lane::lanewise::unary8(op, count, a[i]);
+            a[i] = lanewise::unary8(op, count, a[i]);
         }
         V128::from_places8(a)
     }
@@ -196,7 +196,7 @@ impl V128 {
         let mut a = self.places8();
         let b = rhs.places8();
         for i in 0..64 {
-            a[i] = lane::lanewise::binary8(op, a[i], b[i]);
+            a[i] = lanewise::binary8(op, a[i], b[i]);
         }
         V128::from_places8(a)
     }
@@ -242,7 +242,7 @@ impl V128 {
     {
         let mut a = self.places16();
         for i in 0..64 {
-            a[i] = lane::lanewise::unary16(op, count, a[i]);
+            a[i] = lanewise::unary16(op, count, a[i]);
         }
         V128::from_places16(a)
     }
@@ -253,7 +253,7 @@ impl V128 {
         let mut a = self.places16();
         let b = rhs.places16();
         for i in 0..64 {
-            a[i] = lane::lanewise::binary16(op, a[i], b[i]);
+            a[i] = lanewise::binary16(op, a[i], b[i]);
         }
         V128::from_places16(a)
     }
@@ -299,7 +299,7 @@ impl V128 {
     {
         let mut a = self.places32();
         for i in 0..64 {
-            a[i] = lane::lanewise::unary32(op, count, a[i]);
+            a[i] = lanewise::unary32(op, count, a[i]);
         }
         V128::from_places32(a)
     }
@@ -310,7 +310,7 @@ impl V128 {
         let mut a = self.places32();
         let b = rhs.places32();
         for i in 0..64 {
-            a[i] = lane::lanewise::binary32(op, a[i], b[i]);
+            a[i] = lanewise::binary32(op, a[i], b[i]);
         }
         V128::from_places32(a)
     }
@@ -320,7 +320,7 @@ impl V128 {
     {
         let mut a = self.places32();
         for i in 0..64 {
-            a[i] = lane::lanewise_float::float_unary32(op, a[i]);
+            a[i] = lanewise::float::float_unary32(op, a[i]);
         }
         V128::from_places32(a)
     }
@@ -331,7 +331,7 @@ impl V128 {
         let mut a = self.places32();
         let b = rhs.places32();
         for i in 0..64 {
-            a[i] = lane::lanewise_float::float_binary32(op, a[i], b[i]);
+            a[i] = lanewise::float::float_binary32(op, a[i], b[i]);
         }
         V128::from_places32(a)
     }
@@ -464,8 +464,8 @@ impl V128 {
         ensures { λ r. ⌜ number r ≡ unary 64 (unary-of (unaries 64 count) op) (number self) ⌝ }
     {
         V128 {
-            lo: lane::lanewise::unary64(op, count, self.lo),
-            hi: lane::lanewise::unary64(op, count, self.hi),
+            lo: lanewise::unary64(op, count, self.lo),
+            hi: lanewise::unary64(op, count, self.hi),
         }
     }
 
@@ -473,8 +473,8 @@ impl V128 {
         ensures { λ r. ⌜ number r ≡ binary 64 (binary-of (take 9 (binaries 64)) op) (number self) (number rhs) ⌝ }
     {
         V128 {
-            lo: lane::lanewise::binary64(op, self.lo, rhs.lo),
-            hi: lane::lanewise::binary64(op, self.hi, rhs.hi),
+            lo: lanewise::binary64(op, self.lo, rhs.lo),
+            hi: lanewise::binary64(op, self.hi, rhs.hi),
         }
     }
 
@@ -482,8 +482,8 @@ impl V128 {
         ensures { λ r. ⌜ number r ≡ unary 64 (float-unary-of binary64 op) (number self) ⌝ }
     {
         V128 {
-            lo: lane::lanewise_float::float_unary64(op, self.lo),
-            hi: lane::lanewise_float::float_unary64(op, self.hi),
+            lo: lanewise::float::float_unary64(op, self.lo),
+            hi: lanewise::float::float_unary64(op, self.hi),
         }
     }
 
@@ -491,8 +491,8 @@ impl V128 {
         ensures { λ r. ⌜ number r ≡ binary 64 (float-binary-of binary64 op) (number self) (number rhs) ⌝ }
     {
         V128 {
-            lo: lane::lanewise_float::float_binary64(op, self.lo, rhs.lo),
-            hi: lane::lanewise_float::float_binary64(op, self.hi, rhs.hi),
+            lo: lanewise::float::float_binary64(op, self.lo, rhs.lo),
+            hi: lanewise::float::float_binary64(op, self.hi, rhs.hi),
         }
     }
 }

@@ -2,11 +2,11 @@
 ghost use mathlib.Core.Path.{_≡_};
 ghost use Rattle.standard.specs.Integer.{modulo};
 ghost use Rattle.standard.specs.Lanes.{splat};
-ghost use Rattle.lane.specs.Scalar.{f32-bits, f64-bits};
+ghost use Rattle.float_lane.specs.Scalar.{f32-bits, f64-bits};
 ghost use Rattle.simd.specs.Number.{number};
 use crate::V128;
-use lane::float::F32;
-use lane::float::F64;
+use float_lane::F32;
+use float_lane::F64;
 use lane::reinterpret::unsigned8;
 use lane::reinterpret::unsigned16;
 use lane::reinterpret::unsigned32;

@@ -9,14 +9,14 @@ ghost use Rattle.lane.specs.Widen.{extends, narrows};
 ghost use Rattle.simd.specs.Number.{number};
 ghost use Rattle.simd.specs.Select.{half-of};
 use crate::V128;
-use lane::lanewise::DOT;
-use lane::lanewise::EXTADD_S;
-use lane::lanewise::EXTADD_U;
 use lane::widen::extend8;
 use lane::widen::extend16;
 use lane::widen::extend32;
 use lane::widen::narrow16;
 use lane::widen::narrow32;
+use lanewise::DOT;
+use lanewise::EXTADD_S;
+use lanewise::EXTADD_U;
 
 impl V128 {
     fn widen8(bits: u64, signed: bool) -> V128
@@ -318,7 +318,7 @@ impl V128 {
         let mut a = self.places32();
         let b = rhs.places32();
         for i in 0..32 {
-            a[i] = lane::lanewise::binary32(DOT, a[i], b[i]);
+            a[i] = lanewise::binary32(DOT, a[i], b[i]);
         }
         V128::from_places32(a)
     }

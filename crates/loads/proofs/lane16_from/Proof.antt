@@ -10,8 +10,8 @@ returns c = lane-not-loaded _ _ _ 16 _ (c .if1 .taken)
 fetch16-requires : tie.Need-fetch16-requires
 fetch16-requires c κs = search needs
 
-enum-known-x : tie.Need-enum-known-x
-enum-known-x c = search needs
+enum-known-value : tie.Need-enum-known-value
+enum-known-value c = search needs
 
 enum-told : tie.Need-enum-told
 enum-told c = search needs
@@ -23,7 +23,7 @@ replace16-requires : tie.Need-replace16-requires
 replace16-requires c κs = search needs
 
 returns-3 : tie.Need-returns-3
-returns-3 c = lane-loaded _ _ _ 16 _ (rw (c .before .before .x .given .1) at (c .before .before .before .before .fetch16 .ensures)) (c .replace16 .ensures)
+returns-3 c = lane-loaded _ _ _ 16 _ (rw (c .before .before .value .given .1) at (c .before .before .before .before .fetch16 .ensures)) (c .replace16 .ensures)
 
 pub lane16-from-spec : {M : Type 1} → statement M
 lane16-from-spec =
@@ -31,7 +31,7 @@ lane16-from-spec =
     (tie.spec
     returns
     fetch16-requires
-    enum-known-x
+    enum-known-value
     enum-told
     returns-2
     replace16-requires

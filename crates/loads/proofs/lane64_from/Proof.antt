@@ -10,8 +10,8 @@ returns c = lane-not-loaded _ _ _ 64 _ (c .if1 .taken)
 fetch64-requires : tie.Need-fetch64-requires
 fetch64-requires c κs = search needs
 
-enum-known-x : tie.Need-enum-known-x
-enum-known-x c = search needs
+enum-known-value : tie.Need-enum-known-value
+enum-known-value c = search needs
 
 enum-told : tie.Need-enum-told
 enum-told c = search needs
@@ -23,7 +23,7 @@ replace64-requires : tie.Need-replace64-requires
 replace64-requires c κs = search needs
 
 returns-3 : tie.Need-returns-3
-returns-3 c = lane-loaded _ _ _ 64 _ (rw (c .before .before .x .given .1) at (c .before .before .before .before .fetch64 .ensures)) (c .replace64 .ensures)
+returns-3 c = lane-loaded _ _ _ 64 _ (rw (c .before .before .value .given .1) at (c .before .before .before .before .fetch64 .ensures)) (c .replace64 .ensures)
 
 pub lane64-from-spec : {M : Type 1} → statement M
 lane64-from-spec =
@@ -31,7 +31,7 @@ lane64-from-spec =
     (tie.spec
     returns
     fetch64-requires
-    enum-known-x
+    enum-known-value
     enum-told
     returns-2
     replace64-requires

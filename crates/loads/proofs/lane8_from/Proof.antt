@@ -10,8 +10,8 @@ returns c = lane-not-loaded _ _ _ 8 _ (c .if1 .taken)
 fetch8-requires : tie.Need-fetch8-requires
 fetch8-requires c κs = search needs
 
-enum-known-x : tie.Need-enum-known-x
-enum-known-x c = search needs
+enum-known-value : tie.Need-enum-known-value
+enum-known-value c = search needs
 
 enum-told : tie.Need-enum-told
 enum-told c = search needs
@@ -23,9 +23,9 @@ replace8-requires : tie.Need-replace8-requires
 replace8-requires c κs = search needs
 
 returns-3 : tie.Need-returns-3
-returns-3 c = lane-loaded _ _ _ 8 _ (rw (c .before .before .x .given .1) at (c .before .before .before .before .fetch8 .ensures)) (c .replace8 .ensures)
+returns-3 c = lane-loaded _ _ _ 8 _ (rw (c .before .before .value .given .1) at (c .before .before .before .before .fetch8 .ensures)) (c .replace8 .ensures)
 
 pub lane8-from-spec : {M : Type 1} → statement M
 lane8-from-spec =
     tie.close
-    (tie.spec returns fetch8-requires enum-known-x enum-told returns-2 replace8-requires returns-3)
+    (tie.spec returns fetch8-requires enum-known-value enum-told returns-2 replace8-requires returns-3)

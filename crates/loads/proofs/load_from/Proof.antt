@@ -6,8 +6,8 @@ use Rattle.loads.proofs.load_from.Tie as tie
 fetch128-requires : tie.Need-fetch128-requires
 fetch128-requires c κs = search needs
 
-enum-known-x : tie.Need-enum-known-x
-enum-known-x c = search needs
+enum-known-value : tie.Need-enum-known-value
+enum-known-value c = search needs
 
 enum-told : tie.Need-enum-told
 enum-told c = search needs
@@ -16,7 +16,7 @@ returns : tie.Need-returns
 returns c = rw (c .enum-told .given .1) at (c .before .before .fetch128 .ensures)
 
 returns-2 : tie.Need-returns-2
-returns-2 c = rw (c .before .x .given .1) at (c .before .before .before .fetch128 .ensures)
+returns-2 c = rw (c .before .value .given .1) at (c .before .before .before .fetch128 .ensures)
 
 pub load-from-spec : {M : Type 1} → statement M
-load-from-spec = tie.close (tie.spec fetch128-requires enum-known-x enum-told returns returns-2)
+load-from-spec = tie.close (tie.spec fetch128-requires enum-known-value enum-told returns returns-2)

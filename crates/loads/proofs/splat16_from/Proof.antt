@@ -7,8 +7,8 @@ use Rattle.loads.proofs.splat16_from.Tie as tie
 fetch16-requires : tie.Need-fetch16-requires
 fetch16-requires c κs = search needs
 
-enum-known-x : tie.Need-enum-known-x
-enum-known-x c = search needs
+enum-known-value : tie.Need-enum-known-value
+enum-known-value c = search needs
 
 enum-told : tie.Need-enum-told
 enum-told c = search needs
@@ -20,8 +20,8 @@ splat16-requires : tie.Need-splat16-requires
 splat16-requires c κs = search needs
 
 returns-2 : tie.Need-returns-2
-returns-2 c = splatted _ _ 16 (rw (c .before .before .x .given .1) at (c .before .before .before .before .fetch16 .ensures)) (c .splat16 .ensures)
+returns-2 c = splatted _ _ 16 (rw (c .before .before .value .given .1) at (c .before .before .before .before .fetch16 .ensures)) (c .splat16 .ensures)
 
 pub splat16-from-spec : {M : Type 1} → statement M
 splat16-from-spec =
-    tie.close (tie.spec fetch16-requires enum-known-x enum-told returns splat16-requires returns-2)
+    tie.close (tie.spec fetch16-requires enum-known-value enum-told returns splat16-requires returns-2)

@@ -7,8 +7,8 @@ use Rattle.loads.proofs.splat32_from.Tie as tie
 fetch32-requires : tie.Need-fetch32-requires
 fetch32-requires c κs = search needs
 
-enum-known-x : tie.Need-enum-known-x
-enum-known-x c = search needs
+enum-known-value : tie.Need-enum-known-value
+enum-known-value c = search needs
 
 enum-told : tie.Need-enum-told
 enum-told c = search needs
@@ -20,8 +20,8 @@ splat32-requires : tie.Need-splat32-requires
 splat32-requires c κs = search needs
 
 returns-2 : tie.Need-returns-2
-returns-2 c = splatted _ _ 32 (rw (c .before .before .x .given .1) at (c .before .before .before .before .fetch32 .ensures)) (c .splat32 .ensures)
+returns-2 c = splatted _ _ 32 (rw (c .before .before .value .given .1) at (c .before .before .before .before .fetch32 .ensures)) (c .splat32 .ensures)
 
 pub splat32-from-spec : {M : Type 1} → statement M
 splat32-from-spec =
-    tie.close (tie.spec fetch32-requires enum-known-x enum-told returns splat32-requires returns-2)
+    tie.close (tie.spec fetch32-requires enum-known-value enum-told returns splat32-requires returns-2)

@@ -7,8 +7,8 @@ use Rattle.loads.proofs.splat64_from.Tie as tie
 fetch64-requires : tie.Need-fetch64-requires
 fetch64-requires c κs = search needs
 
-enum-known-x : tie.Need-enum-known-x
-enum-known-x c = search needs
+enum-known-value : tie.Need-enum-known-value
+enum-known-value c = search needs
 
 enum-told : tie.Need-enum-told
 enum-told c = search needs
@@ -20,8 +20,8 @@ splat64-requires : tie.Need-splat64-requires
 splat64-requires c κs = search needs
 
 returns-2 : tie.Need-returns-2
-returns-2 c = splatted _ _ 64 (rw (c .before .before .x .given .1) at (c .before .before .before .before .fetch64 .ensures)) (c .splat64 .ensures)
+returns-2 c = splatted _ _ 64 (rw (c .before .before .value .given .1) at (c .before .before .before .before .fetch64 .ensures)) (c .splat64 .ensures)
 
 pub splat64-from-spec : {M : Type 1} → statement M
 splat64-from-spec =
-    tie.close (tie.spec fetch64-requires enum-known-x enum-told returns splat64-requires returns-2)
+    tie.close (tie.spec fetch64-requires enum-known-value enum-told returns splat64-requires returns-2)

@@ -7,8 +7,8 @@ use Rattle.loads.proofs.splat8_from.Tie as tie
 fetch8-requires : tie.Need-fetch8-requires
 fetch8-requires c κs = search needs
 
-enum-known-x : tie.Need-enum-known-x
-enum-known-x c = search needs
+enum-known-value : tie.Need-enum-known-value
+enum-known-value c = search needs
 
 enum-told : tie.Need-enum-told
 enum-told c = search needs
@@ -20,8 +20,8 @@ splat8-requires : tie.Need-splat8-requires
 splat8-requires c κs = search needs
 
 returns-2 : tie.Need-returns-2
-returns-2 c = splatted _ _ 8 (rw (c .before .before .x .given .1) at (c .before .before .before .before .fetch8 .ensures)) (c .splat8 .ensures)
+returns-2 c = splatted _ _ 8 (rw (c .before .before .value .given .1) at (c .before .before .before .before .fetch8 .ensures)) (c .splat8 .ensures)
 
 pub splat8-from-spec : {M : Type 1} → statement M
 splat8-from-spec =
-    tie.close (tie.spec fetch8-requires enum-known-x enum-told returns splat8-requires returns-2)
+    tie.close (tie.spec fetch8-requires enum-known-value enum-told returns splat8-requires returns-2)

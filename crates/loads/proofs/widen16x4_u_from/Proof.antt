@@ -8,8 +8,8 @@ use Rattle.loads.proofs.widen16x4_u_from.Tie as tie
 fetch64-requires : tie.Need-fetch64-requires
 fetch64-requires c κs = search needs
 
-enum-known-x : tie.Need-enum-known-x
-enum-known-x c = search needs
+enum-known-value : tie.Need-enum-known-value
+enum-known-value c = search needs
 
 enum-told : tie.Need-enum-told
 enum-told c = search needs
@@ -21,9 +21,9 @@ v128-widen16x4-u-requires : tie.Need-v128-widen16x4-u-requires
 v128-widen16x4-u-requires c κs = search needs
 
 returns-2 : tie.Need-returns-2
-returns-2 c = widened _ _ extend-u 16 (rw (c .before .before .x .given .1) at (c .before .before .before .before .fetch64 .ensures)) (c .v128-widen16x4-u .ensures)
+returns-2 c = widened _ _ extend-u 16 (rw (c .before .before .value .given .1) at (c .before .before .before .before .fetch64 .ensures)) (c .v128-widen16x4-u .ensures)
 
 pub widen16x4-u-from-spec : {M : Type 1} → statement M
 widen16x4-u-from-spec =
     tie.close
-    (tie.spec fetch64-requires enum-known-x enum-told returns v128-widen16x4-u-requires returns-2)
+    (tie.spec fetch64-requires enum-known-value enum-told returns v128-widen16x4-u-requires returns-2)

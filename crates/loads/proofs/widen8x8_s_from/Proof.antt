@@ -8,8 +8,8 @@ use Rattle.loads.proofs.widen8x8_s_from.Tie as tie
 fetch64-requires : tie.Need-fetch64-requires
 fetch64-requires c κs = search needs
 
-enum-known-x : tie.Need-enum-known-x
-enum-known-x c = search needs
+enum-known-value : tie.Need-enum-known-value
+enum-known-value c = search needs
 
 enum-told : tie.Need-enum-told
 enum-told c = search needs
@@ -21,9 +21,9 @@ v128-widen8x8-s-requires : tie.Need-v128-widen8x8-s-requires
 v128-widen8x8-s-requires c κs = search needs
 
 returns-2 : tie.Need-returns-2
-returns-2 c = widened _ _ extend-s 8 (rw (c .before .before .x .given .1) at (c .before .before .before .before .fetch64 .ensures)) (c .v128-widen8x8-s .ensures)
+returns-2 c = widened _ _ extend-s 8 (rw (c .before .before .value .given .1) at (c .before .before .before .before .fetch64 .ensures)) (c .v128-widen8x8-s .ensures)
 
 pub widen8x8-s-from-spec : {M : Type 1} → statement M
 widen8x8-s-from-spec =
     tie.close
-    (tie.spec fetch64-requires enum-known-x enum-told returns v128-widen8x8-s-requires returns-2)
+    (tie.spec fetch64-requires enum-known-value enum-told returns v128-widen8x8-s-requires returns-2)

@@ -8,8 +8,8 @@ use Rattle.loads.proofs.zero32_from.Tie as tie
 fetch32-requires : tie.Need-fetch32-requires
 fetch32-requires c κs = search needs
 
-enum-known-x : tie.Need-enum-known-x
-enum-known-x c = search needs
+enum-known-value : tie.Need-enum-known-value
+enum-known-value c = search needs
 
 enum-told : tie.Need-enum-told
 enum-told c = search needs
@@ -21,8 +21,8 @@ cast-t5 : tie.Need-cast-t5
 cast-t5 c = search needs
 
 returns-2 : tie.Need-returns-2
-returns-2 c = loaded _ _ 4 (rw (c .before .x .given .1) at (c .before .before .before .fetch32 .ensures)) (add-zero _)
+returns-2 c = loaded _ _ 4 (rw (c .before .value .given .1) at (c .before .before .before .fetch32 .ensures)) (add-zero _)
 
 pub zero32-from-spec : {M : Type 1} → statement M
 zero32-from-spec =
-    tie.close (tie.spec fetch32-requires enum-known-x enum-told returns cast-t5 returns-2)
+    tie.close (tie.spec fetch32-requires enum-known-value enum-told returns cast-t5 returns-2)

@@ -8,8 +8,8 @@ use Rattle.loads.proofs.zero64_from.Tie as tie
 fetch64-requires : tie.Need-fetch64-requires
 fetch64-requires c κs = search needs
 
-enum-known-x : tie.Need-enum-known-x
-enum-known-x c = search needs
+enum-known-value : tie.Need-enum-known-value
+enum-known-value c = search needs
 
 enum-told : tie.Need-enum-told
 enum-told c = search needs
@@ -18,7 +18,7 @@ returns : tie.Need-returns
 returns c = rw (c .enum-told .given .1) at (c .before .before .fetch64 .ensures)
 
 returns-2 : tie.Need-returns-2
-returns-2 c = loaded _ _ 8 (rw (c .before .x .given .1) at (c .before .before .before .fetch64 .ensures)) (add-zero _)
+returns-2 c = loaded _ _ 8 (rw (c .before .value .given .1) at (c .before .before .before .fetch64 .ensures)) (add-zero _)
 
 pub zero64-from-spec : {M : Type 1} → statement M
-zero64-from-spec = tie.close (tie.spec fetch64-requires enum-known-x enum-told returns returns-2)
+zero64-from-spec = tie.close (tie.spec fetch64-requires enum-known-value enum-told returns returns-2)

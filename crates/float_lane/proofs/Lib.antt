@@ -1,0 +1,2 @@
+pub mod FloatOrder
+pub mod Nan

@@ -1,0 +1,2 @@
+pub mod Lanewise
+pub mod LanewiseFloat
