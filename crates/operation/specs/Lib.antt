@@ -1,3 +1,2 @@
-pub mod Outcome
 pub mod Scalar
-pub mod Code
+pub mod Family

@@ -16,3 +16,6 @@ bits-of (Scalar.I32 z) = modulo 32 z
 bits-of (Scalar.I64 z) = modulo 64 z
 bits-of (Scalar.F32 x) = f32-bits x
 bits-of (Scalar.F64 x) = f64-bits x
+
+abbrev pub scalar-of : Scalar → Kind × ℕ
+scalar-of s = (kind-of s, bits-of s)

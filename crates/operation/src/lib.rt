@@ -1,7 +1,11 @@
-// An operation by the standard's number: what it makes of its operands, lane by lane or packed.
-pub mod from_scalar;
-pub mod lane_by_lane;
-pub mod outcome;
-pub mod packed_form;
-pub mod perform;
+// An operation by the standard's number, lane by lane: a function for each family, by the methods of the vector; and the calculator's scalar.
+pub mod binary;
+pub mod extract;
+pub mod given;
+pub mod replace;
 pub mod scalar;
+pub mod shift;
+pub mod splat;
+pub mod ternary;
+pub mod test;
+pub mod unary;

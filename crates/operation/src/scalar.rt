@@ -1,12 +1,19 @@
 // The calculator's scalar: "an enum whose cases carry the number itself" (document 01). A float is the number or the bits of a NaN, so every
 // pattern of bits has a value.
 ghost use mathlib.Core.Path.{_≡_};
-ghost use Rattle.standard.specs.Instruction.{kind-number};
-ghost use Rattle.operation.specs.Scalar.{kind-of, bits-of};
-use float_lane::F32;
-use float_lane::F64;
+ghost use Prim.Native.Nat.{_%_, _^_};
+ghost use Rattle.standard.specs.Integer.{modulo};
+ghost use Rattle.standard.specs.Instruction.{i32};
+ghost use Rattle.rules.specs.Shape.{the-kind};
+ghost use Rattle.operation.specs.Scalar.{kind-of, bits-of, scalar-of};
+use lane::float::F32;
+use lane::float::F64;
+use lane::reinterpret::signed8;
+use lane::reinterpret::signed16;
+use lane::reinterpret::signed32;
 use lane::reinterpret::unsigned32;
 use lane::reinterpret::unsigned64;
+use rules::shape::Kind;
 
 pub enum Scalar {
     I32(i32),
@@ -16,16 +23,22 @@ pub enum Scalar {
 }
 
 impl Scalar {
-    // The number of the kind: i32, i64, f32 and f64 are 1 to 4.
-    pub fn kind(self) -> u8
-        ensures { λ r. ⌜ r ≡ kind-number (kind-of self) ⌝ }
+    pub fn kind(self) -> Kind
+        ensures { λ r. ⌜ the-kind r ≡ kind-of self ⌝ }
     {
         match self {
-            Scalar::I32(_) => 1,
-            Scalar::I64(_) => 2,
-            Scalar::F32(_) => 3,
-            Scalar::F64(_) => 4,
+            Scalar::I32(_) => Kind::I32,
+            Scalar::I64(_) => Kind::I64,
+            Scalar::F32(_) => Kind::F32,
+            Scalar::F64(_) => Kind::F64,
         }
+    }
+
+    // The i32 with these bits: "Extract, bitmask, any-true and all-true set it (the last three as i32)".
+    pub fn of_bits(x: u32) -> Scalar
+        ensures { λ r. ⌜ scalar-of r ≡ (i32, x) ⌝ }
+    {
+        Scalar::I32(signed32(x))
     }
 
     // The bits; those of a kind of 32 bits are the low ones.
@@ -39,4 +52,17 @@ impl Scalar {
             Scalar::F64(x) => x.to_bits(),
         }
     }
+}
+
+// "For 8- and 16-bit lanes the low bits of an i32 are used."
+pub fn low8(z: i32) -> i8
+    ensures { λ r. ⌜ modulo 8 r ≡ modulo 32 z % 2 ^ 8 ⌝ }
+{
+    signed8((unsigned32(z) % 256) as u8)
+}
+
+pub fn low16(z: i32) -> i16
+    ensures { λ r. ⌜ modulo 16 r ≡ modulo 32 z % 2 ^ 16 ⌝ }
+{
+    signed16((unsigned32(z) % 65536) as u16)
 }

@@ -1,0 +1,19 @@
+-- `operation::extract::extract` meets its contract: each arm by its method's promise, at the number that led there. Assumes nothing.
+use mathlib.Core.Path.{refl}
+use Rattle.standard.specs.Instruction.{table, instruction}
+use Rattle.operation.specs.Family.{families}
+use Rattle.rules.proofs.Shapes.{nothing}
+use Rattle.operation.proofs.Others.{any}
+use Rattle.operation.proofs.extract.extract.Statement.{statement}
+use Rattle.operation.proofs.extract.extract.Tie as tie
+
+pub extract-spec : {M : Type 1} → statement M
+unfolding instruction table
+extract-spec =
+    tie.close
+    (tie.spec
+    nothing nothing nothing nothing nothing nothing nothing nothing nothing nothing nothing nothing nothing nothing nothing nothing
+    (λ c. rw (c .before .before .match .keys1) (cc)) (λ c. rw (c .before .before .match .keys2) (cc)) (λ c. rw (c .before .before .match .keys3) (cc))
+    (λ c. rw (c .before .before .match .keys4) (cc)) (λ c. rw (c .before .before .match .keys5) (cc)) (λ c. rw (c .before .before .match .keys6) (cc))
+    (λ c. rw (c .before .before .match .keys7) (cc)) (λ c. rw (c .before .before .match .keys8) (cc))
+    (λ c. rw (any (λ i. families i .extract) _ refl (c .match .rest))))

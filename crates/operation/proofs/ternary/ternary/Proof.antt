@@ -1,0 +1,17 @@
+-- `operation::ternary::ternary` meets its contract: each arm by its method's promise, at the number that led there. Assumes nothing.
+use mathlib.Core.Path.{refl}
+use Rattle.standard.specs.Instruction.{table, instruction}
+use Rattle.operation.specs.Family.{families}
+use Rattle.rules.proofs.Shapes.{nothing}
+use Rattle.operation.proofs.Others.{any}
+use Rattle.operation.proofs.ternary.ternary.Statement.{statement}
+use Rattle.operation.proofs.ternary.ternary.Tie as tie
+
+pub ternary-spec : {M : Type 1} → statement M
+unfolding instruction table
+ternary-spec =
+    tie.close
+    (tie.spec
+    nothing
+    (λ c. rw (c .before .match .keys1) (search))
+    (λ c. rw (any (λ i. families i .ternary) _ refl (c .match .rest))))

@@ -1,0 +1,67 @@
+// A vector from one vector, lane by lane: the standard's number chooses the method.
+ghost use mathlib.Core.Path.{_≡_};
+ghost use Prim.Native.Nat.{_≤_, _<_};
+ghost use Rattle.standard.specs.Instruction.{instruction};
+ghost use Rattle.simd.specs.Number.{number};
+ghost use Rattle.operation.specs.Family.{as-unary};
+use simd::V128;
+
+// Of a number of another family: the vector as it is.
+pub fn unary(op: u16, a: V128) -> V128
+    ensures { λ r. ⌜ number r ≡ as-unary (instruction op) (number a) ⌝ }
+{
+    match op {
+        0..=159 => narrow(op, a),
+        _ => wide(op, a),
+    }
+}
+
+// v128, i8x16 and i16x8.
+fn narrow(op: u16, a: V128) -> V128
+    requires { ⌜ op < 160 ⌝ }
+    ensures { λ r. ⌜ number r ≡ as-unary (instruction op) (number a) ⌝ }
+{
+    match op {
+        77 => a.v128_not(),
+        96 => a.i8x16_abs(),
+        97 => a.i8x16_neg(),
+        98 => a.i8x16_popcnt(),
+        124 => a.i16x8_extadd_pairwise_i8x16_s(),
+        125 => a.i16x8_extadd_pairwise_i8x16_u(),
+        126 => a.i32x4_extadd_pairwise_i16x8_s(),
+        127 => a.i32x4_extadd_pairwise_i16x8_u(),
+        128 => a.i16x8_abs(),
+        129 => a.i16x8_neg(),
+        135 => a.i16x8_extend_low_i8x16_s(),
+        136 => a.i16x8_extend_high_i8x16_s(),
+        137 => a.i16x8_extend_low_i8x16_u(),
+        138 => a.i16x8_extend_high_i8x16_u(),
+        _ => a,
+    }
+}
+
+// i32x4, i64x2 and floats.
+fn wide(op: u16, a: V128) -> V128
+    requires { ⌜ 160 ≤ op ⌝ }
+    ensures { λ r. ⌜ number r ≡ as-unary (instruction op) (number a) ⌝ }
+{
+    match op {
+        160 => a.i32x4_abs(),
+        161 => a.i32x4_neg(),
+        167 => a.i32x4_extend_low_i16x8_s(),
+        168 => a.i32x4_extend_high_i16x8_s(),
+        169 => a.i32x4_extend_low_i16x8_u(),
+        170 => a.i32x4_extend_high_i16x8_u(),
+        192 => a.i64x2_abs(),
+        193 => a.i64x2_neg(),
+        199 => a.i64x2_extend_low_i32x4_s(),
+        200 => a.i64x2_extend_high_i32x4_s(),
+        201 => a.i64x2_extend_low_i32x4_u(),
+        202 => a.i64x2_extend_high_i32x4_u(),
+        224 => a.f32x4_abs(),
+        225 => a.f32x4_neg(),
+        236 => a.f64x2_abs(),
+        237 => a.f64x2_neg(),
+        _ => a,
+    }
+}
