@@ -7,7 +7,7 @@ use Rattle.simd.specs.Number.{number}
 use Rattle.simd.specs.declared.V128.{V128}
 use Rattle.simd.proofs.Coincide.{Held, vectors-coincide}
 use Rattle.operation.specs.Scalar.{kind-of, bits-of}
-use Rattle.calculator.specs.Definition as definition
+use Rattle.rules.specs.Definition as definition
 use Rattle.calculator.specs.Run.{ending-of}
 use Rattle.calculator.specs.declared.run.Ending.{Ending}
 

@@ -7,7 +7,7 @@ use Prim.Native.Nat.{ℕ}
 use lib.ListN.{replicate, set}
 use Rattle.standard.specs.Lanes.{joined, unary, extract}
 use Rattle.standard.specs.Instruction.{i32, table, instruction}
-use Rattle.calculator.specs.Definition.{Ending, start, refusal, effect, step, steps, whole-steps, run}
+use Rattle.rules.specs.Definition.{Ending, start, refusal, effect, step, steps, whole-steps, run}
 
 ending : List ℕ → ℕ → ℕ → Ending
 ending registers done number = record { machine = record { registers = registers; kind = i32; bits = 0 }; done = done; number = number }

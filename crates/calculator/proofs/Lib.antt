@@ -1,9 +1,6 @@
-pub mod Examples
-pub mod Registers
-pub mod Letters
-pub mod Judged
-pub mod Done
-pub mod Slices
-pub mod Runs
-pub mod Marks
 pub mod Coincide
+pub mod Examples
+pub mod Marks
+pub mod Performed
+pub mod Runs
+pub mod Words

@@ -7,7 +7,7 @@ use lib.ListN.{length, getD, take, drop, length-drop}
 use lib.Seq.{getD-take, getD-drop}
 use Rattle.standard.specs.Refusal.{Answer, given, refused}
 use Rattle.standard.specs.Instruction.{Instruction, none, memory, const, shuffled, vector₁, vector₂, vector₃, shifted, tested, splatted, extracted, replaced, instruction}
-use Rattle.calculator.specs.Definition.{Machine, Ending, bytes, operation, profile, refusal, effect, answer, step, after, steps, run}
+use Rattle.rules.specs.Definition.{Machine, Ending, bytes, operation, profile, refusal, effect, answer, step, after, steps, run}
 use Rattle.calculator.specs.State.{machine}
 use Rattle.calculator.specs.Run.{ending-of}
 use Rattle.calculator.specs.declared.run.Ending as code

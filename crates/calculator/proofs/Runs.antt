@@ -7,7 +7,7 @@ use native.Mathlib.Numerals.{add-one}
 use lib.ListN.{take, drop}
 use lib.Seq.{drop-drop}
 use Rattle.standard.specs.Refusal.{given, refused}
-use Rattle.calculator.specs.Definition.{Machine, step, steps}
+use Rattle.rules.specs.Definition.{Machine, step, steps}
 
 module _ (n done : ℕ) (list : List ℕ) (m : Machine) (more : done < n) where
   one-more : n - done ≡ suc (n - (done + 1))

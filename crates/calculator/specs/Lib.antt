@@ -1,4 +1,3 @@
-pub mod Definition
 pub mod State
-pub mod Code
+pub mod Done
 pub mod Run

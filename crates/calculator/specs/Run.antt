@@ -1,15 +1,21 @@
 -- What the code's step and run stand for in the definition.
+use Prim.Native.Nat.{ℕ}
 use mathlib.Core.Bool.{cond}
+use mathlib.Core.List.{List}
 use lib.Dec.{eqb}
 use Rattle.standard.specs.Refusal.{Answer, given, refused}
-use Rattle.calculator.specs.Definition as definition
-use Rattle.calculator.specs.Definition.{Machine}
-use Rattle.calculator.specs.State.{machine}
+use Rattle.rules.specs.Definition as definition
+use Rattle.rules.specs.Definition.{Machine}
+use Rattle.calculator.specs.State.{machine, held}
 use Rattle.calculator.specs.declared.step.Stepped.{Stepped}
 use Rattle.calculator.specs.declared.run.Ending.{Ending}
 
-abbrev pub answer-of : Stepped → Answer Machine
-answer-of r = cond (eqb (r .refused) 0) (given (machine (r .state))) (refused (r .refused))
+-- with the words that a step leaves
+abbrev pub answer-of : Stepped → List ℕ → Answer Machine
+answer-of r w = cond (eqb (r .refused) 0) (given (held w (r .scalar))) (refused (r .refused))
+
+abbrev pub ends : Machine → ℕ → ℕ → definition.Ending
+ends m done n = record { machine = m; done = done; number = n }
 
 abbrev pub ending-of : Ending → definition.Ending
-ending-of r = record { machine = machine (r .state); done = r .done; number = r .refused }
+ending-of r = ends (machine (r .state)) (r .done) (r .refused)

@@ -1,7 +1,5 @@
 // The calculator of document 01: 16 registers, one scalar, and steps of 32 bytes, each decided, judged and done.
-pub mod decide;
-pub mod fields;
-pub mod judge;
+pub mod registers;
 pub mod run;
 pub mod state;
 pub mod step;

@@ -1,12 +1,15 @@
 // A run: at most 256 steps of 32 bytes each, one after the other, until one is refused.
 ghost use mathlib.Core.Path.{_≡_};
-ghost use Prim.Native.Nat.{_+_, _/_, _≤_};
-ghost use lib.ListN.{length, take, drop};
-ghost use Rattle.calculator.specs.Definition;
-ghost use Rattle.calculator.specs.State.{machine};
-ghost use Rattle.calculator.specs.Run.{ending-of};
+ghost use Prim.Native.Nat.{_/_, _≤_};
+ghost use lib.ListN.{length};
+ghost use Rattle.rules.specs.Definition;
+ghost use Rattle.calculator.specs.State.{machine, held};
+ghost use Rattle.calculator.specs.Run.{ends, ending-of};
+use crate::registers::of_words;
+use crate::registers::words;
 use crate::state::State;
 use crate::step::step;
+use operation::scalar::Scalar;
 
 // What a run ends in: the state, the steps done, and the number of the refusal that ended it, 0 for none.
 pub struct Ending {
@@ -18,16 +21,15 @@ pub struct Ending {
 // Refusal 1: "list length not a multiple of 32, or above 8,192".
 pub const LENGTH: u8 = 1;
 
-// The 32 bytes from a place on.
-fn step_at(list: &[u8], at: usize) -> [u8; 32]
-    requires { ⌜ at + 32 ≤ length (now list) ⌝ }
-    ensures { λ r. ⌜ r ≡ take 32 (drop at (now (list .entry))) ⌝ }
+fn ended(w: [u64; 32], scalar: Scalar, done: usize, refused: u8) -> Ending
+    ensures { λ r. ⌜ ending-of r ≡ ends (held w scalar) done refused ⌝ }
 {
-    let mut s = [0u8; 32];
-    for i in 0..32 {
-        s[i] = list[at + i];
+    let registers = of_words(w);
+    Ending {
+        state: State { registers, scalar },
+        done,
+        refused,
     }
-    s
 }
 
 // The steps of a list of whole steps.
@@ -36,26 +38,22 @@ fn steps(state: State, list: &[u8]) -> Ending
     ensures { λ r. ⌜ ending-of r ≡ Definition.steps (length (now (list .entry)) / 32) (now (list .entry)) (machine state) 0 ⌝ }
 {
     let n = list.len() / 32;
-    let mut state = state;
+    let all = state.registers;
+    let mut w = words(all);
+    let mut scalar = state.scalar;
     let mut done = 0;
     while done < n {
-        let stepped = step(state, step_at(list, 32 * done));
+        let at = 32 * done;
+        let end = at + 32;
+        let stepped = step(&mut w, scalar, &list[at..end]);
         let refused = stepped.refused;
-        state = stepped.state;
+        scalar = stepped.scalar;
         if refused != 0 {
-            return Ending {
-                state,
-                done,
-                refused,
-            };
+            return ended(w, scalar, done, refused);
         }
         done += 1;
     }
-    Ending {
-        state,
-        done,
-        refused: 0,
-    }
+    ended(w, scalar, done, 0)
 }
 
 pub fn run(state: State, list: &[u8]) -> Ending

@@ -1,35 +1,85 @@
-// A step: decided, judged, and done where it is not refused.
+// A step: decided, judged, and done where it is not refused. "Sources are read before the destination is written".
 ghost use mathlib.Core.Path.{_≡_};
-ghost use Rattle.calculator.specs.Definition;
-ghost use Rattle.calculator.specs.State.{machine};
+ghost use Rattle.standard.specs.Instruction.{instruction};
+ghost use Rattle.rules.specs.Definition;
+ghost use Rattle.simd.specs.Number.{number};
+ghost use Rattle.calculator.specs.State.{held};
+ghost use Rattle.calculator.specs.Done.{makes, does};
 ghost use Rattle.calculator.specs.Run.{answer-of};
-use crate::decide::decide;
-use crate::fields::operands;
-use crate::fields::operation;
-use crate::judge::judge;
-use crate::state::State;
-use operation::perform::perform;
+use crate::registers::get;
+use crate::registers::put;
+use operation::extract::extract;
+use operation::given;
+use operation::replace::replace;
+use operation::scalar::Scalar;
+use operation::splat::splat;
+use operation::ternary::ternary;
+use rules::fields::byte;
+use rules::fields::count;
+use rules::fields::indices;
+use rules::fields::operation;
+use rules::judge::judge;
+use rules::shape::Shape;
+use rules::shape::decide;
+use simd::V128;
 
-// The state after a step, and the number of its refusal; 0 for none, and a refused step leaves the state as it was.
+// The scalar after a step, and the number of its refusal; 0 for none.
 pub struct Stepped {
-    pub state: State,
+    pub scalar: Scalar,
     pub refused: u8,
 }
 
-pub fn step(state: State, s: [u8; 32]) -> Stepped
-    ensures result { λ r. ⌜ answer-of r ≡ Definition.step (machine state) s ⌝ }
-    ensures left { λ r. ⌜ ((r .refused ≡ 0 → ⊥) → machine (r .state) ≡ machine state) ⌝ }
+// The vector that a step of a shape makes; source a where it makes none.
+fn make(w: &[u64; 32], scalar: Scalar, shape: Shape, op: u16, s: &[u8]) -> V128
+    ensures { λ r. ⌜ number r ≡ makes shape (instruction op) (held (now (w .entry)) scalar) (now (s .entry)) ⌝ }
+{
+    let mark = byte(s, 7);
+    let a = get(w, byte(s, 3));
+    match shape {
+        Shape::None => a,
+        Shape::Constant => V128::join8(indices(s)),
+        Shape::Shuffle => given::vector(a.i8x16_shuffle(get(w, byte(s, 4)), indices(s)), a),
+        Shape::Unary => choice::unary(op, mark, a),
+        Shape::Binary => choice::binary(op, mark, a, get(w, byte(s, 4))),
+        Shape::Ternary => ternary(op, a, get(w, byte(s, 4)), get(w, byte(s, 5))),
+        Shape::Shift => choice::shift(op, mark, a, count(s)),
+        Shape::Test => a,
+        Shape::Splat(_) => splat(op, scalar),
+        Shape::Extract(_) => a,
+        Shape::Replace(_, _) => replace(op, a, byte(s, 6), scalar),
+    }
+}
+
+// "Extract, bitmask, any-true and all-true set [the scalar]"; every other step writes its vector to the destination.
+fn perform(w: &mut [u64; 32], scalar: Scalar, shape: Shape, op: u16, s: &[u8]) -> Scalar
+    ensures { λ r. ⌜ held (now (w .exit)) r ≡ does shape (instruction op) (held (now (w .entry)) scalar) (now (s .entry)) ⌝ }
+{
+    match shape {
+        Shape::None => scalar,
+        Shape::Test => Scalar::of_bits(choice::test(op, byte(s, 7), get(w, byte(s, 3)))),
+        Shape::Extract(_) => extract(op, get(w, byte(s, 3)), byte(s, 6)),
+        _ => {
+            let v = make(w, scalar, shape, op, s);
+            put(w, byte(s, 2), v);
+            scalar
+        }
+    }
+}
+
+// A refused step leaves the registers and the scalar as they were.
+pub fn step(w: &mut [u64; 32], scalar: Scalar, s: &[u8]) -> Stepped
+    ensures result { λ r. ⌜ answer-of r (now (w .exit)) ≡ Definition.step (held (now (w .entry)) scalar) (now (s .entry)) ⌝ }
+    ensures left { λ r. ⌜ ((r .refused ≡ 0 → ⊥) → (now (w .exit) ≡ now (w .entry)) × (r .scalar ≡ scalar)) ⌝ }
 {
     let op = operation(s);
-    let scalar = state.scalar;
-    let refused = judge(decide(op), scalar, s);
+    let shape = decide(op);
+    let refused = judge(shape, scalar.kind(), s);
     if refused == 0 {
-        let outcome = perform(op, s[7], operands(state, s));
         Stepped {
-            state: state.settle(s[2], outcome),
+            scalar: perform(w, scalar, shape, op, s),
             refused,
         }
     } else {
-        Stepped { state, refused }
+        Stepped { scalar, refused }
     }
 }

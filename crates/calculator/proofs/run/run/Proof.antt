@@ -1,6 +1,6 @@
 -- `calculator::run::run` meets its contract: a list of whole steps, or refusal 1. Assumes nothing.
 use borrow.Author.Tests.{le-leb, lt-leb, ne-eqb}
-use Rattle.calculator.specs.Definition.{run}
+use Rattle.rules.specs.Definition.{run}
 use borrow.Author.Needs.{needs}
 use Rattle.calculator.proofs.run.run.Statement.{statement}
 use Rattle.calculator.proofs.run.run.Tie as tie
