@@ -2,15 +2,15 @@
 ghost use mathlib.Core.Path.{_≡_};
 ghost use Rattle.standard.specs.Integer.{modulo};
 ghost use Rattle.standard.specs.Instruction.{i32, i64, f32, f64, instruction};
-ghost use Rattle.lane.specs.Scalar.{f32-bits, f64-bits};
+ghost use Rattle.float_lane.specs.Scalar.{f32-bits, f64-bits};
 ghost use Rattle.simd.specs.Number.{number};
 ghost use Rattle.operation.specs.Scalar.{kind-of, bits-of};
 ghost use Rattle.operation.specs.Family.{as-splat};
 use crate::scalar::Scalar;
 use crate::scalar::low8;
 use crate::scalar::low16;
-use lane::float::F32;
-use lane::float::F64;
+use float_lane::F32;
+use float_lane::F64;
 use simd::V128;
 
 const ZERO: V128 = V128 { lo: 0, hi: 0 };
