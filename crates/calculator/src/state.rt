@@ -1,8 +1,11 @@
 // The calculator's state by value.
 ghost use mathlib.Core.Path.{_≡_};
 ghost use Rattle.rules.specs.Definition.{start};
+ghost use Rattle.rules.specs.Shape.{the-kind};
+ghost use Rattle.operation.specs.Scalar.{kind-of};
 ghost use Rattle.calculator.specs.State.{machine};
 use operation::scalar::Scalar;
+use rules::shape::Kind;
 use simd::V128;
 
 pub struct State {
@@ -19,5 +22,17 @@ impl State {
             registers: [V128 { lo: 0, hi: 0 }; 16],
             scalar: Scalar::I32(0),
         }
+    }
+}
+
+// The kind of a scalar, as the rules name it.
+pub fn kind(scalar: Scalar) -> Kind
+    ensures { λ r. ⌜ the-kind r ≡ kind-of scalar ⌝ }
+{
+    match scalar {
+        Scalar::I32(_) => Kind::I32,
+        Scalar::I64(_) => Kind::I64,
+        Scalar::F32(_) => Kind::F32,
+        Scalar::F64(_) => Kind::F64,
     }
 }

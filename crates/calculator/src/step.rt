@@ -8,6 +8,7 @@ ghost use Rattle.calculator.specs.Done.{makes, does};
 ghost use Rattle.calculator.specs.Run.{answer-of};
 use crate::registers::get;
 use crate::registers::put;
+use crate::state::kind;
 use operation::extract::extract;
 use operation::given;
 use operation::replace::replace;
@@ -73,7 +74,7 @@ pub fn step(w: &mut [u64; 32], scalar: Scalar, s: &[u8]) -> Stepped
 {
     let op = operation(s);
     let shape = decide(op);
-    let refused = judge(shape, scalar.kind(), s);
+    let refused = judge(shape, kind(scalar), s);
     if refused == 0 {
         Stepped {
             scalar: perform(w, scalar, shape, op, s),

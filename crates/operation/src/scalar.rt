@@ -4,7 +4,6 @@ ghost use mathlib.Core.Path.{_≡_};
 ghost use Prim.Native.Nat.{_%_, _^_};
 ghost use Rattle.standard.specs.Integer.{modulo};
 ghost use Rattle.standard.specs.Instruction.{i32};
-ghost use Rattle.rules.specs.Shape.{the-kind};
 ghost use Rattle.operation.specs.Scalar.{kind-of, bits-of, scalar-of};
 use float_lane::F32;
 use float_lane::F64;
@@ -13,7 +12,6 @@ use lane::reinterpret::signed16;
 use lane::reinterpret::signed32;
 use lane::reinterpret::unsigned32;
 use lane::reinterpret::unsigned64;
-use rules::shape::Kind;
 
 pub enum Scalar {
     I32(i32),
@@ -23,17 +21,6 @@ pub enum Scalar {
 }
 
 impl Scalar {
-    pub fn kind(self) -> Kind
-        ensures { λ r. ⌜ the-kind r ≡ kind-of self ⌝ }
-    {
-        match self {
-            Scalar::I32(_) => Kind::I32,
-            Scalar::I64(_) => Kind::I64,
-            Scalar::F32(_) => Kind::F32,
-            Scalar::F64(_) => Kind::F64,
-        }
-    }
-
     // The i32 with these bits: "Extract, bitmask, any-true and all-true set it (the last three as i32)".
     pub fn of_bits(x: u32) -> Scalar
         ensures { λ r. ⌜ scalar-of r ≡ (i32, x) ⌝ }

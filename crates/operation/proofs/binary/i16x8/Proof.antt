@@ -1,7 +1,7 @@
 -- `operation::binary::i16x8` meets its contract: each arm by its method's promise, at the number that led there. Assumes nothing.
 use Rattle.standard.specs.Instruction.{table, instruction}
 use Rattle.operation.specs.Family.{families}
-use Rattle.rules.proofs.Shapes.{nothing}
+use Rattle.operation.proofs.Calls.{nothing}
 use Rattle.operation.proofs.Others.{between}
 use Rattle.operation.proofs.binary.i16x8.Statement.{statement}
 use Rattle.operation.proofs.binary.i16x8.Tie as tie

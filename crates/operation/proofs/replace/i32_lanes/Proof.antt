@@ -5,7 +5,7 @@ use mir.Facts.{toZ-ofZ}
 use Rattle.standard.specs.Instruction.{i32, table, instruction}
 use Rattle.lane.proofs.Magnitude.{kept}
 use Rattle.operation.specs.Family.{families}
-use Rattle.rules.proofs.Shapes.{nothing}
+use Rattle.operation.proofs.Calls.{nothing}
 use Rattle.operation.proofs.Others.{any}
 use Rattle.operation.proofs.replace.i32_lanes.Statement.{statement}
 use Rattle.operation.proofs.replace.i32_lanes.Tie as tie

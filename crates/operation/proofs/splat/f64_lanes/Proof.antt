@@ -2,7 +2,7 @@
 use mathlib.Core.Path.{refl}
 use Rattle.standard.specs.Instruction.{f64, table, instruction}
 use Rattle.operation.specs.Family.{families}
-use Rattle.rules.proofs.Shapes.{nothing}
+use Rattle.operation.proofs.Calls.{nothing}
 use Rattle.operation.proofs.Others.{any}
 use Rattle.operation.proofs.splat.f64_lanes.Statement.{statement}
 use Rattle.operation.proofs.splat.f64_lanes.Tie as tie

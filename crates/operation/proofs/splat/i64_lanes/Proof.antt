@@ -3,7 +3,7 @@ use mathlib.Core.Path.{refl}
 use mir.Facts.{toZ-ofZ}
 use Rattle.standard.specs.Instruction.{i64, table, instruction}
 use Rattle.operation.specs.Family.{families}
-use Rattle.rules.proofs.Shapes.{nothing}
+use Rattle.operation.proofs.Calls.{nothing}
 use Rattle.operation.proofs.Others.{any}
 use Rattle.operation.proofs.splat.i64_lanes.Statement.{statement}
 use Rattle.operation.proofs.splat.i64_lanes.Tie as tie

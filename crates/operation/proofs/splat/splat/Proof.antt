@@ -2,7 +2,7 @@
 use mathlib.Core.Path.{_≡_}
 use mir.Syntax.{w32, w64}
 use mir.Val.{toZ, ofZ}
-use Rattle.rules.proofs.Shapes.{nothing}
+use Rattle.operation.proofs.Calls.{nothing}
 use borrow.Author.Needs.{needs}
 use Rattle.operation.proofs.splat.splat.Statement.{statement}
 use Rattle.operation.proofs.splat.splat.Tie as tie
