@@ -5,12 +5,10 @@ use mir.Val.{Fits}
 use Rattle.standard.specs.Integer.{signed, modulo}
 use Rattle.lane.proofs.Magnitude.{kept}
 use Rattle.lane.proofs.Signed.{modulo-signed}
+use Rattle.rules.proofs.Shapes.{nothing}
 use borrow.Author.Needs.{needs}
 use Rattle.operation.proofs.scalar.Scalar.of_bits.Statement.{statement}
 use Rattle.operation.proofs.scalar.Scalar.of_bits.Tie as tie
-
-signed32-requires : tie.Need-signed32-requires
-signed32-requires c κs = search needs
 
 returns : tie.Need-returns
 returns c =
@@ -20,4 +18,4 @@ returns c =
     rw (kept w32 (c .signed32 .ok) (c .signed32 .ensures), e)
 
 pub of-bits-spec : {M : Type 1} → statement M
-of-bits-spec = tie.close (tie.spec signed32-requires returns)
+of-bits-spec = tie.close (tie.spec nothing returns)
