@@ -4,7 +4,7 @@ ghost use mathlib.Core.Path.{_≡_};
 ghost use Prim.Native.Nat.{_%_, _^_};
 ghost use Rattle.standard.specs.Integer.{modulo};
 ghost use Rattle.standard.specs.Instruction.{i32};
-ghost use Rattle.operation.specs.Scalar.{kind-of, bits-of, scalar-of};
+ghost use Rattle.operation.specs.Scalar.{bits-of, scalar-of};
 use float_lane::F32;
 use float_lane::F64;
 use lane::reinterpret::signed8;

@@ -11,7 +11,7 @@ use mir.Val.{hasKey}
 use types.Run.{OneOf, hit}
 use lib.Seq.{getD-take, getD-drop}
 use Rattle.standard.specs.Instruction.{Kind, i32, i64, f32, f64, Instruction, none, memory, const, shuffled, vector₁, vector₂, vector₃, shifted, tested, splatted, extracted, replaced, table, instruction}
-use Rattle.rules.specs.Definition.{Profile, profile}
+use Rattle.rules.specs.Definition.{profile}
 use Rattle.rules.specs.Shape.{the-kind, as-kind, shape, profile-of}
 use Rattle.rules.specs.declared.shape.Shape.{Shape}
 

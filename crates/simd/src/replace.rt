@@ -7,7 +7,6 @@ ghost use Rattle.float_lane.specs.Scalar.{f32-bits, f64-bits};
 ghost use Rattle.simd.specs.Answer.{vector-answer};
 ghost use Rattle.simd.specs.Number.{number};
 use crate::V128;
-use crate::answer::LANE;
 use crate::answer::VectorAnswer;
 use float_lane::F32;
 use float_lane::F64;

@@ -3,7 +3,7 @@
 ghost use mathlib.Core.Path.{_≡_};
 ghost use mathlib.Core.List.{map};
 ghost use Rattle.standard.specs.Integer.{extend-u, extend-s, narrow-u, narrow-s};
-ghost use Rattle.standard.specs.Lanes.{digits, joined, lanes, lowHalf, highHalf};
+ghost use Rattle.standard.specs.Lanes.{joined, lanes, lowHalf, highHalf};
 ghost use Rattle.standard.specs.Vector.{extend, extmul, extadd-pairwise, dot, narrow, widen};
 ghost use Rattle.lane.specs.Widen.{extends, narrows};
 ghost use Rattle.simd.specs.Number.{number};

@@ -1,10 +1,10 @@
 -- Neighbouring lanes of width w are the two halves of a lane of width w + w.
 -- Assumes nothing.
 use mathlib.Core.Path.{_≡_, refl, sym, ap, ap₂, _∙_}
-use mathlib.Core.List.{List, [], _∷_, map}
-use Prim.Native.Nat.{ℕ, zero, suc, _+_, _*_, _/_, _%_, _^_}
+use mathlib.Core.List.{_∷_, map}
+use Prim.Native.Nat.{ℕ, zero, suc, _+_, _/_, _%_, _^_}
 use lib.Pow.{mod-mod-pow, field, shr-shr}
-use Rattle.standard.specs.Lanes.{digits, joined, lanes, zip, pairwise, unary, binary}
+use Rattle.standard.specs.Lanes.{digits, joined, zip, pairwise, unary, binary}
 use Rattle.standard.specs.Integer.{iadd, imul, extend-s}
 use Rattle.standard.specs.Vector.{extadd-pairwise, dot}
 

@@ -1,7 +1,7 @@
 -- Memory (the standard, 4.4.7 "Memory Instructions"; document 01, "Memory"): a list of bytes, little-endian. `at` is the effective
 -- address: pointer + offset as an exact sum, or the address of an `_at` form.
-use Prim.Native.Nat.{ℕ, _+_, _*_, _/_}
-use mathlib.Core.Bool.{Bool, true, false, cond}
+use Prim.Native.Nat.{ℕ, _+_, _/_}
+use mathlib.Core.Bool.{cond}
 use mathlib.Core.List.{List, _++_}
 use lib.ListN.{length, take, drop}
 use lib.Dec.{leb}

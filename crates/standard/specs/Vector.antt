@@ -1,6 +1,6 @@
 -- Instructions that are not lane by lane (the standard, 4.4.3 "Vector Instructions"; document 01, "Lane rules").
 use Prim.Native.Nat.{ℕ, _*_, _/_}
-use mathlib.Core.Bool.{Bool, true, false, cond}
+use mathlib.Core.Bool.{cond}
 use mathlib.Core.List.{List, [], _∷_, _++_, map}
 use lib.ListN.{getD}
 use lib.Dec.{eqb}

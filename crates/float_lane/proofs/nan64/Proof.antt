@@ -7,7 +7,7 @@ use native.Mathlib.Nat.{mod-lt}
 use native.Mathlib.Omega.{arith}
 use borrow.Author.Tests.{ltb-true, ltb-false}
 use lib.Dec.{ltb}
-use lib.Ieee.{binary64, nanBits}
+use lib.Ieee.{binary64}
 use lib.Ieee.Bits.{nanBits-above}
 use Rattle.float_lane.proofs.nan64.Statement.{statement}
 use Rattle.float_lane.proofs.nan64.Tie as tie

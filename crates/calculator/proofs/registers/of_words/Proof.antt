@@ -3,7 +3,7 @@ use mathlib.Core.Path.{_≡_, refl, sym, _∙_}
 use mathlib.Core.List.{map}
 use Prim.Native.Nat.{_%_, _-_, _≤_, _<_}
 use native.Mathlib.Omega.{arith}
-use lib.ListN.{length, getD, set, take, length-set, length-map, List·getD-map}
+use lib.ListN.{length, getD, set, take, length-set}
 use lib.Seq.{take-all}
 use Rattle.simd.specs.Number.{number}
 use Rattle.rules.proofs.Shapes.{nothing}

@@ -1,12 +1,12 @@
 -- `rules::judge::indices_fit` meets its contract: what is left to test decides as the whole does. Assumes nothing.
 use denote.Ref.{now}
-use mathlib.Core.Path.{_≡_, refl, sym, _∙_, ap}
-use mathlib.Core.Bool.{Bool, true, false}
+use mathlib.Core.Path.{_≡_, refl, sym, _∙_}
+use mathlib.Core.Bool.{true, false}
 use Prim.Native.Nat.{_≤_, _+_, _-_}
 use native.Mathlib.Omega.{arith}
 use borrow.Author.Tests.{le-leb, lt-leb}
 use Rattle.standard.specs.Refusal.{legal}
-use Rattle.rules.specs.Definition.{bytes, indices, unless}
+use Rattle.rules.specs.Definition.{bytes, indices}
 use Rattle.rules.proofs.Judged.{turn}
 use Rattle.rules.proofs.Shapes.{nothing}
 use Rattle.rules.proofs.judge.indices_fit.Statement.{statement}

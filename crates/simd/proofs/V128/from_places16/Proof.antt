@@ -1,9 +1,9 @@
 -- `simd::V128::from_places16` meets its contract: a loop that copies the lanes. Assumes nothing.
 use borrow.Author.Needs.{needs}
-use Prim.Native.Nat.{ℕ, _≤_, _-_}
+use Prim.Native.Nat.{_≤_, _-_}
 use mathlib.Core.Path.{_≡_, refl, ap, _∙_}
 use mathlib.Core.List.{append-nil}
-use lib.ListN.{length, replicate, take}
+use lib.ListN.{replicate, take}
 use Rattle.standard.specs.Lanes.{joined}
 use Rattle.standard.proofs.Loop.{zipTo, copy-turn, copy-done}
 use Rattle.simd.proofs.V128.from_places16.Statement.{statement}

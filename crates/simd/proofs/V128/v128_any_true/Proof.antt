@@ -1,5 +1,4 @@
 -- `simd::V128::v128_any_true` meets its contract. Assumes nothing.
-use borrow.Author.Needs.{needs}
 use Rattle.standard.proofs.Reduce.{any-below, any-above}
 use Rattle.simd.proofs.V128.v128_any_true.Statement.{statement}
 use Rattle.simd.proofs.V128.v128_any_true.Tie as tie
