@@ -1,8 +1,7 @@
 // Replace: a vector with a lane from the scalar, by its kind.
 ghost use mathlib.Core.Path.{_≡_};
 ghost use Rattle.standard.specs.Integer.{modulo};
-ghost use Rattle.standard.specs.Instruction.{i32, i64, f32, f64, instruction};
-ghost use Rattle.float_lane.specs.Scalar.{f32-bits, f64-bits};
+ghost use Rattle.standard.specs.Instruction.{i32, instruction};
 ghost use Rattle.simd.specs.Number.{number};
 ghost use Rattle.operation.specs.Scalar.{kind-of, bits-of};
 ghost use Rattle.operation.specs.Family.{as-replace};
@@ -10,8 +9,6 @@ use crate::given::vector;
 use crate::scalar::Scalar;
 use crate::scalar::low8;
 use crate::scalar::low16;
-use float_lane::F32;
-use float_lane::F64;
 use simd::V128;
 
 // Of a number of another family, of a scalar of another kind, or of a lane not below the lane count: the vector as it is.
@@ -20,9 +17,27 @@ pub fn replace(op: u16, a: V128, lane: u8, scalar: Scalar) -> V128
 {
     match scalar {
         Scalar::I32(x) => i32_lanes(op, a, lane, x),
-        Scalar::I64(x) => i64_lanes(op, a, lane, x),
-        Scalar::F32(x) => f32_lanes(op, a, lane, x),
-        Scalar::F64(x) => f64_lanes(op, a, lane, x),
+        Scalar::I64(x) => {
+            if op == 30 {
+                vector(a.i64x2_replace_lane(lane, x), a)
+            } else {
+                a
+            }
+        }
+        Scalar::F32(x) => {
+            if op == 32 {
+                vector(a.f32x4_replace_lane(lane, x), a)
+            } else {
+                a
+            }
+        }
+        Scalar::F64(x) => {
+            if op == 34 {
+                vector(a.f64x2_replace_lane(lane, x), a)
+            } else {
+                a
+            }
+        }
     }
 }
 
@@ -33,33 +48,6 @@ fn i32_lanes(op: u16, a: V128, lane: u8, x: i32) -> V128
         23 => vector(a.i8x16_replace_lane(lane, low8(x)), a),
         26 => vector(a.i16x8_replace_lane(lane, low16(x)), a),
         28 => vector(a.i32x4_replace_lane(lane, x), a),
-        _ => a,
-    }
-}
-
-fn i64_lanes(op: u16, a: V128, lane: u8, x: i64) -> V128
-    ensures { λ r. ⌜ number r ≡ as-replace i64 (instruction op) (number a) lane (modulo 64 x) ⌝ }
-{
-    match op {
-        30 => vector(a.i64x2_replace_lane(lane, x), a),
-        _ => a,
-    }
-}
-
-fn f32_lanes(op: u16, a: V128, lane: u8, x: F32) -> V128
-    ensures { λ r. ⌜ number r ≡ as-replace f32 (instruction op) (number a) lane (f32-bits x) ⌝ }
-{
-    match op {
-        32 => vector(a.f32x4_replace_lane(lane, x), a),
-        _ => a,
-    }
-}
-
-fn f64_lanes(op: u16, a: V128, lane: u8, x: F64) -> V128
-    ensures { λ r. ⌜ number r ≡ as-replace f64 (instruction op) (number a) lane (f64-bits x) ⌝ }
-{
-    match op {
-        34 => vector(a.f64x2_replace_lane(lane, x), a),
         _ => a,
     }
 }
