@@ -1,0 +1,4 @@
+pub mod Bits
+pub mod Distance
+pub mod Positions
+pub mod Refusals
