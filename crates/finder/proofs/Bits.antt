@@ -69,12 +69,12 @@ binary-window k w h = ap (take 32) below ∙ take-at (binary 32 (w / 2 ^ r)) (bi
 pub bits-append : (xs ys : List ℕ) → bits (xs ++ ys) ≡ bits xs ++ bits ys
 unfolding bits
 bits-append [] ys = refl
-bits-append (x ∷ xs) ys = ap (λ (z : List ℕ). binary 8 x ++ z) (bits-append xs ys) ∙ sym (append-assoc (binary 8 x) (bits xs) (bits ys))
+bits-append (x ∷ xs) ys = rw (bits-append xs ys, append-assoc)
 
 pub length-bits : (bs : List ℕ) → length (bits bs) ≡ 8 * length bs
 unfolding bits
 length-bits [] = refl
-length-bits (b ∷ bs) = omega (arith, length-append (binary 8 b) (bits bs), length-binary 8 b, length-bits bs)
+length-bits (b ∷ bs) = simp (length-append, length-binary, length-bits bs) (omega arith)
 
 -- one byte more
 pub bits-more : (bs : List ℕ) (i : ℕ) → i < length bs → bits (take (i + 1) bs) ≡ bits (take i bs) ++ binary 8 (getD bs i 0)

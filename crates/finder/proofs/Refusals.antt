@@ -55,6 +55,6 @@ unfolding find
 find-refused bs m t L e h = sym (rw (← e) (rw (ne-eqb _ 0 h)))
 
 pub find-searched : (bs : List ℕ) (m t L : ℕ) → refusal bs t L ≡ 0
-    → find bs m t L ≡ first-from (bits bs) (mark m) t L (suc (8 * length bs - (L + 32))) 0
+    → find bs m t L ≡ first-from (bits bs) (mark m) t L (suc (length (bits bs) - (L + 32))) 0
 unfolding find
-find-searched bs m t L e = rw (e, length-bits bs)
+find-searched bs m t L e = rw e

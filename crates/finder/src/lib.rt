@@ -57,7 +57,14 @@ fn apart_at(buffer: &[u8], p: usize, marker: u32) -> u32
 }
 
 // The search among the first positions of a word, bit by bit.
-fn among(buffer: &[u8], at: usize, count: usize, marker: u32, tolerance: u32, frame: usize) -> Answer
+fn among(
+    buffer: &[u8],
+    at: usize,
+    count: usize,
+    marker: u32,
+    tolerance: u32,
+    frame: usize,
+) -> Answer
     requires { ⌜ 64 ≤ frame ⌝ }
     requires { ⌜ count ≤ 32 ⌝ }
     requires { ⌜ 8 * at + count + frame + 31 ≤ 8 * length (now buffer) ⌝ }

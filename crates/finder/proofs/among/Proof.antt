@@ -52,7 +52,7 @@ apart-at-requires c κs = search needs
 -- the distance that is taken from the word is the one in the buffer
 first : (c : tie.After-apart Inv-loop μ-loop)
     → let given = c .before .before .before .before .before .args in
-      c .apart .result ≡ distance (window (bits (given .buffer .now)) (8 * given .at + c .before .before .loop .k)) (mark (given .marker))
+    c .apart .result ≡ distance (window (bits (given .buffer .now)) (8 * given .at + c .before .before .loop .k)) (mark (given .marker))
 first c =
     let given = c .before .before .before .before .before .args in
     let word = c .before .before .before .word-at in
@@ -78,7 +78,7 @@ loop-again c =
     let on = goes-on (bits (given .buffer .now)) (mark (given .marker)) (given .tolerance) (given .frame) (given .count) k (8 * given .at) (omega arith) (c .before .before .before .loop .inv .1) in (
       search needs,
       ⊎-elim (λ w. on (far-later _ _ _ _ (8 * given .at + k) (w .1 .ensures) (omega (arith, w .2))))
-        (λ w. on (far _ _ _ _ (8 * given .at + k) (first (c .before)) (omega (arith, w)))) (c .if1 .came),
+          (λ w. on (far _ _ _ _ (8 * given .at + k) (first (c .before)) (omega (arith, w)))) (c .if1 .came),
     )
 
 returns-2 : tie.Need-returns-2 Inv-loop μ-loop

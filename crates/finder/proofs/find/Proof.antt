@@ -32,7 +32,7 @@ search-requires c κs =
 returns-2 : tie.Need-returns-2
 returns-2 c =
     let given = c .before .before .before .before .args in
-    c .search .ensures ∙ sym (find-searched (given .buffer .now) (given .marker) (given .tolerance) (given .length) (none (c .before)))
+    rw (← length-bits (given .buffer .now)) at (c .search .ensures) ∙ sym (find-searched (given .buffer .now) (given .marker) (given .tolerance) (given .length) (none (c .before)))
 
 pub find-spec : {M : Type 1} → statement M
 find-spec = tie.close (tie.spec refusal-requires returns search-requires returns-2)

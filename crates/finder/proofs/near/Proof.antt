@@ -37,8 +37,8 @@ loop-again : tie.Need-loop-again Inv-loop μ-loop
 loop-again c = (
   search needs,
   λ e.
-  let each = both-false _ _ e in
-  below-more _ _ (c .before .before .loop .inv .1 (each .0)) (rw (c .apart .ensures) at (leb-false (c .apart .result) (c .before .before .before .args .tolerance) (each .1))),
+      let each = both-false _ _ e in
+      below-more _ _ (c .before .before .loop .inv .1 (each .0)) (rw (c .apart .ensures) at (leb-false (c .apart .result) (c .before .before .before .args .tolerance) (each .1))),
 )
 
 returns : tie.Need-returns Inv-loop μ-loop

@@ -8,7 +8,7 @@ use borrow.Author.Needs.{needs}
 use lib.ListN.{length}
 use Rattle.finder.specs.Definition.{bits, mark, window, distance, first-from}
 use Rattle.finder.proofs.Distance.{distance-inside}
-use Rattle.finder.proofs.Positions.{none, among-the-first, among-the-others}
+use Rattle.finder.proofs.Positions.{far, none, among-the-first, among-the-others}
 use Rattle.finder.proofs.search.Statement.{statement}
 use Rattle.finder.proofs.search.Tie as tie
 use Rattle.finder.proofs.search.Reads as reads
@@ -69,7 +69,7 @@ returns c =
     let count : suc (8 * length (given .buffer .now) - (given .frame + 32)) ≡ positions = omega arith in
     let told = c .enum-told2 .given .1 in
     rw (count, told)
-      (among-the-first _ _ _ _ 32 (positions - 8 * loop .at) (8 * loop .at) (omega arith) (rw told at (c .before .before .among .ensures)) ∙ sym (loop .inv .1))
+    (among-the-first _ _ _ _ 32 (positions - 8 * loop .at) (8 * loop .at) (omega arith) (rw told at (c .before .before .among .ensures)) ∙ sym (loop .inv .1))
 
 add-at : tie.Need-add-at Inv-loop μ-loop
 add-at c = search needs
@@ -80,12 +80,12 @@ loop-less c = search needs
 -- a word in which nothing is near has no window in the buffer that is
 quiet : (c : tie.After-near Inv-loop μ-loop) → c .near .result ≡ false
     → let given = c .before .before .before .before .before .args in
-      (k : ℕ) → k < 32 → given .tolerance < distance (window (bits (given .buffer .now)) (8 * c .before .before .before .loop .at + k)) (mark (given .marker))
+    (k : ℕ) → k < 32 → given .tolerance < distance (window (bits (given .buffer .now)) (8 * c .before .before .before .loop .at + k)) (mark (given .marker))
 quiet c e k h =
     let given = c .before .before .before .before .before .args in
     let word = c .before .word-at in
     rw (distance-inside (given .buffer .now) (c .before .before .before .loop .at) k (word .result) (given .marker) (omega arith) (omega arith) (word .ensures))
-      at (c .near .ensures e k h)
+    at (c .near .ensures e k h)
 
 loop-again : tie.Need-loop-again Inv-loop μ-loop
 loop-again c =
@@ -97,9 +97,9 @@ loop-again c =
     let others = among-the-others (bits (given .buffer .now)) (mark (given .marker)) (given .tolerance) (given .frame) 32 (positions - 8 * loop .at) (8 * loop .at) (omega arith) in (
       search needs,
       loop .inv .1
-      ∙ rw (← left, ← next)
+          ∙ rw (← left, ← next)
           (⊎-elim (λ w. others (w .3 .given .0 .0) (rw (w .3 .given .1) at (w .1 .ensures)))
-            (λ w. others 11 (sym (none _ _ _ _ 32 (8 * loop .at) (quiet (c .before) (w .left))))) (c .if1 .came)),
+          (λ w. others 11 (sym (none _ _ _ _ 32 (8 * loop .at) (λ k h. far _ _ _ _ (8 * loop .at + k) refl (quiet (c .before) (w .left) k h))))) (c .if1 .came)),
     )
 
 mul-among : tie.Need-mul-among Inv-loop μ-loop
