@@ -10,11 +10,6 @@ use Rattle.finder.proofs.Distance.{distance-inside}
 use Rattle.finder.proofs.Positions.{far, far-later, goes-on, ends}
 use Rattle.finder.proofs.among.Statement.{statement}
 use Rattle.finder.proofs.among.Tie as tie
-use Rattle.finder.proofs.among.Reads as reads
-use Rattle.finder.proofs.among.Lts as lts
-use Rattle.finder.proofs.apart.Reads as apart-reads
-use Rattle.finder.proofs.apart_at.Reads as apart-at-reads
-use Rattle.finder.proofs.word_at.Reads as word-at-reads
 
 abbrev Inv-loop : tie.InvT-loop
 Inv-loop buffer at count marker tolerance frame word k₀ k =

@@ -6,10 +6,6 @@ use borrow.Author.Needs.{needs}
 use Rattle.finder.proofs.Distance.{distance-inside}
 use Rattle.finder.proofs.apart_at.Statement.{statement}
 use Rattle.finder.proofs.apart_at.Tie as tie
-use Rattle.finder.proofs.apart_at.Reads as reads
-use Rattle.finder.proofs.apart_at.Lts as lts
-use Rattle.finder.proofs.apart.Reads as apart-reads
-use Rattle.finder.proofs.word_at.Reads as word-at-reads
 
 sub-at : tie.Need-sub-at
 sub-at c = search needs

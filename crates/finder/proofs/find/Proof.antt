@@ -7,10 +7,6 @@ use Rattle.finder.proofs.Bits.{length-bits}
 use Rattle.finder.proofs.Refusals.{admitted, find-refused, find-searched}
 use Rattle.finder.proofs.find.Statement.{statement}
 use Rattle.finder.proofs.find.Tie as tie
-use Rattle.finder.proofs.find.Reads as reads
-use Rattle.finder.proofs.find.Lts as lts
-use Rattle.finder.proofs.refusal.Reads as refusal-reads
-use Rattle.finder.proofs.search.Reads as search-reads
 
 refusal-requires : tie.Need-refusal-requires
 refusal-requires c κs = search needs

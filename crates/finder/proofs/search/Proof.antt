@@ -3,6 +3,7 @@ use Prim.Native.Nat.{ℕ, suc, _+_, _*_, _-_, _<_, _≤_}
 use mathlib.Core.Path.{_≡_, refl, sym, ap, _∙_}
 use mathlib.Core.Bool.{false}
 use mathlib.Core.Logic.{⊎-elim}
+use native.Mathlib.Nat.{sub-zero}
 use native.Mathlib.Omega.{arith}
 use borrow.Author.Needs.{needs}
 use lib.ListN.{length}
@@ -11,11 +12,6 @@ use Rattle.finder.proofs.Distance.{distance-inside}
 use Rattle.finder.proofs.Positions.{far, none, among-the-first, among-the-others}
 use Rattle.finder.proofs.search.Statement.{statement}
 use Rattle.finder.proofs.search.Tie as tie
-use Rattle.finder.proofs.search.Reads as reads
-use Rattle.finder.proofs.search.Lts as lts
-use Rattle.finder.proofs.among.Reads as among-reads
-use Rattle.finder.proofs.near.Reads as near-reads
-use Rattle.finder.proofs.word_at.Reads as word-at-reads
 
 abbrev Inv-loop : tie.InvT-loop
 Inv-loop buffer marker tolerance frame positions at₀ at =
@@ -35,10 +31,7 @@ sub-positions-2 : tie.Need-sub-positions-2 Inv-loop μ-loop
 sub-positions-2 c = search needs
 
 loop-holds : tie.Need-loop-holds Inv-loop μ-loop
-loop-holds c =
-    let given = c .before .args in
-    let all : 8 * length (given .buffer .now) - given .frame - 31 - 0 ≡ 8 * length (given .buffer .now) - given .frame - 31 = omega arith in
-    (search needs, rw all)
+loop-holds c = (search needs, rw sub-zero)
 
 mul-loop : tie.Need-mul-loop Inv-loop μ-loop
 mul-loop c = search needs

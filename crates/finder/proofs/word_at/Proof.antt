@@ -8,8 +8,6 @@ use Rattle.finder.specs.Definition.{binary, bits}
 use Rattle.finder.proofs.Bits.{push-fits, push-lt, word-more}
 use Rattle.finder.proofs.word_at.Statement.{statement}
 use Rattle.finder.proofs.word_at.Tie as tie
-use Rattle.finder.proofs.word_at.Reads as reads
-use Rattle.finder.proofs.word_at.Lts as lts
 
 abbrev Inv-loop : tie.InvT-loop
 Inv-loop buffer at word₀ i₀ word i = (i ≤ 8) × (word < 2 ^ (8 * i)) × (binary (8 * i) word ≡ bits (take i (drop at buffer)))
