@@ -1,1 +1,109 @@
-fn main() {}
+// The program `marker` (document 02, order 5): "marker MARKER TOLERANCE LENGTH" finds a marker in the bytes of standard input and writes where it stands.
+mod arguments;
+
+use arguments::Numeral;
+use finder::Answer;
+use libc::STDERR_FILENO;
+use libc::STDOUT_FILENO;
+
+struct Task {
+    marker: u32,
+    tolerance: u32,
+    length: u32,
+}
+
+enum Asked {
+    For(Task),
+    Badly,
+}
+
+fn put(bytes: &[u8]) -> bool {
+    io::write_all(STDOUT_FILENO, bytes)
+}
+
+fn line(name: &[u8], n: u64) -> bool {
+    put(name) && io::print_decimal(STDOUT_FILENO, n) && put(b"\n")
+}
+
+fn write(answer: Answer) -> bool {
+    match answer {
+        Answer::Found(position, first, second) => {
+            line(b"position ", position as u64)
+                && put(b"distances ")
+                && io::print_decimal(STDOUT_FILENO, first as u64)
+                && line(b" ", second as u64)
+                && line(b"refused ", 0)
+        }
+        Answer::Refused(n) => line(b"refused ", n as u64),
+    }
+}
+
+fn report(answer: Answer) {
+    if !write(answer) {
+        os::fail(b"marker: standard output");
+    }
+}
+
+// An argument of Linux has fewer than 131,072 bytes, so each comes whole, whatever zeros it begins with.
+fn decimal_at(i: usize) -> Numeral {
+    let mut text = [0u8; 131072];
+    let n = os::arg(i, &mut text);
+    arguments::decimal(&text[..n])
+}
+
+fn marker_at(i: usize) -> Numeral {
+    let mut text = [0u8; 8];
+    let n = os::arg(i, &mut text);
+    arguments::marker(&text[..n])
+}
+
+fn read_arguments() -> Asked {
+    if os::arg_count() != 4 {
+        return Asked::Badly;
+    }
+    let Numeral::Number(marker) = marker_at(1) else {
+        return Asked::Badly;
+    };
+    let Numeral::Number(tolerance) = decimal_at(2) else {
+        return Asked::Badly;
+    };
+    let Numeral::Number(length) = decimal_at(3) else {
+        return Asked::Badly;
+    };
+    Asked::For(Task {
+        marker,
+        tolerance,
+        length,
+    })
+}
+
+// Whether the arguments alone decide: 8 and 9 are tested before the buffer, which is refused with 10 where it is empty.
+fn is_decided(task: Task) -> bool {
+    match finder::find(b"", task.marker, task.tolerance, task.length) {
+        Answer::Refused(n) => n != 10,
+        Answer::Found(_, _, _) => true,
+    }
+}
+
+fn main() {
+    let Asked::For(task) = read_arguments() else {
+        io::write_all(
+            STDERR_FILENO,
+            b"marker: expected a marker of eight hex digits, a tolerance and a frame length in decimal, both below 4294967296\n",
+        );
+        return;
+    };
+    if is_decided(task) {
+        report(finder::find(b"", task.marker, task.tolerance, task.length));
+        return;
+    }
+    // "buffer above 65,536 bytes": one byte above decides, so no more than that is read.
+    let mut buffer = [0u8; 65537];
+    let reading = input::read_to(&mut buffer);
+    if reading.failed {
+        os::fail(b"marker: standard input");
+        return;
+    }
+    let n = reading.bytes;
+    report(finder::find(&buffer[..n], task.marker, task.tolerance, task.length));
+}
