@@ -1,12 +1,12 @@
 -- What an answer means to a lessee, over the definition alone. Assumes nothing.
-use mathlib.Core.Path.{_≡_, refl, sym, ap, _∙_}
+use mathlib.Core.Path.{_≡_, refl, sym, _∙_}
 use mathlib.Core.Bool.{Bool, true, false, cond, _&&_, _||_, true≢false, false≢true}
-use mathlib.Core.List.{List}
+use mathlib.Core.List.{List, []}
 use Prim.Native.Nat.{ℕ, zero, suc, _+_, _-_, _<_, _≤_, zero-le}
 use native.Mathlib.Nat.{zero-add}
 use native.Mathlib.Omega.{arith}
-use borrow.Author.Tests.{leb-true, le-leb, eqb-true, eqb-false, lt-leb}
-use lib.Dec.{ltb, leb, eqb}
+use borrow.Author.Tests.{lt-ltb, leb-true, le-leb, eqb-true, eqb-false}
+use lib.Dec.{ltb, eqb}
 use lib.ListN.{length}
 use Rattle.finder.specs.Definition.{bits, mark, window, distance, Answer, found, refused, stands, refusal, first-from, find}
 use Rattle.finder.proofs.Positions.{none}
@@ -150,3 +150,16 @@ module _ (buffer : List ℕ) (marker t L : ℕ) where
       → ((p : ℕ) → distance (window (bits buffer) p) (mark marker) ≤ t → t < distance (window (bits buffer) (p + L)) (mark marker))
       → find buffer marker t L ≡ refused 11
   once-is-never-reported judged h = none-given judged (λ q m. omega (arith, h q (m .here), m .again))
+
+-- The arguments alone decide 8 and 9: what an empty buffer is refused with, but for 10, every buffer is.
+arguments-decide-by : (a b : Bool) (m t L : ℕ) (n : ℕ) → ltb 8 t ≡ a → (ltb L 64 || ltb 65536 L) ≡ b → find [] m t L ≡ refused n → (n ≡ 10 → ⊥)
+    → (buffer : List ℕ) → find buffer m t L ≡ find [] m t L
+unfolding find bits
+arguments-decide-by true b m t L n ea eb e h buffer = rw ea
+arguments-decide-by false true m t L n ea eb e h buffer = rw (ea, eb)
+arguments-decide-by false false m t L n ea eb e h buffer =
+    let ten : refused 10 ≡ refused n = rw (ea, eb, lt-ltb 0 (L + 32) (omega arith)) at e in
+    absurd (h (sym cc))
+
+pub arguments-decide : (m t L n : ℕ) → find [] m t L ≡ refused n → (n ≡ 10 → ⊥) → (buffer : List ℕ) → find buffer m t L ≡ find [] m t L
+arguments-decide m t L n = arguments-decide-by (ltb 8 t) (ltb L 64 || ltb 65536 L) m t L n refl refl

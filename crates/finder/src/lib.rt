@@ -1,9 +1,9 @@
 // The marker finder (document 02, order 5): the smallest bit position at which a marker stands and stands again one frame later.
+ghost use Prim.Native.Nat.{ℕ, suc, _+_, _*_, _-_, _<_, _≤_};
 ghost use mathlib.Core.Path.{_≡_};
 ghost use mathlib.Core.Bool.{false, cond};
 ghost use lib.Dec.{ltb};
 ghost use lib.ListN as List;
-ghost use Prim.Native.Nat.{ℕ, suc, _+_, _*_, _-_, _<_, _≤_};
 ghost use lib.ListN.{length, take, drop};
 ghost use Rattle.finder.specs.Definition.{binary, bits, mark, window, distance, refusal, first-from, find};
 ghost use Rattle.finder.specs.Answer.{answer-of};
@@ -35,7 +35,8 @@ fn apart(word: u64, k: usize, marker: u32) -> u32
     u32::count_ones(seen ^ marker)
 }
 
-// Whether any of the first 32 windows of a word is within the tolerance. No turn decides which is next, so that four windows are compared at once.
+// Whether any of the first 32 windows of a word is within the tolerance. A turn decides nothing, so the compiler takes four at once. Only `false` is a
+// promise: a word that is looked at for nothing costs time and no answer.
 fn near(word: u64, marker: u32, tolerance: u32) -> bool
     ensures { λ r. ⌜ (r ≡ false → (k : ℕ) → k < 32 → tolerance < distance (window (binary 64 word) k) (mark marker)) ⌝ }
 {
@@ -120,6 +121,7 @@ fn is_short(buffer: &[u8], length: u32) -> bool
     buffer.len() < (length as usize + 39) / 8
 }
 
+// "in that order": the last is laid first.
 fn refusal(buffer: &[u8], tolerance: u32, length: u32) -> u8
     ensures { λ r. ⌜ r ≡ refusal (now (buffer .entry)) tolerance length ⌝ }
 {
@@ -128,6 +130,7 @@ fn refusal(buffer: &[u8], tolerance: u32, length: u32) -> u8
     first(tolerance > 8, 8, later)
 }
 
+// The answer to any buffer, marker, tolerance and length of frame.
 pub fn find(buffer: &[u8], marker: u32, tolerance: u32, length: u32) -> Answer
     ensures { λ r. ⌜ answer-of r ≡ find (now (buffer .entry)) marker tolerance length ⌝ }
 {

@@ -1,7 +1,7 @@
 -- The program's arguments, as lists of ASCII codes: "marker as exactly eight hex digits of either case, tolerance and length in decimal", decimal digits
 -- alone, at least one, a value below 2^32.
 use Prim.Native.Nat.{ℕ, _+_, _-_, _*_, _^_}
-use mathlib.Core.Bool.{Bool, cond, _&&_}
+use mathlib.Core.Bool.{cond, _&&_}
 use mathlib.Core.List.{List, [], _∷_}
 use lib.Dec.{ltb, leb, eqb}
 use lib.ListN.{length}

@@ -1,6 +1,12 @@
-// The program `marker` (document 02, order 5): "marker MARKER TOLERANCE LENGTH" finds a marker in the bytes of standard input and writes where it stands.
+// The program `marker` (document 02, order 5): finds the marker of its first argument, within the tolerance of its second and with frames of as many bits as its
+// third says, in the bytes of standard input.
 mod arguments;
 
+ghost use Prim.Native.Nat.{ℕ};
+ghost use mathlib.Core.Path.{_≡_};
+ghost use mathlib.Core.Bool.{true};
+ghost use mathlib.Core.List.{List, []};
+ghost use Rattle.finder.specs.Definition.{find};
 use arguments::Numeral;
 use finder::Answer;
 use libc::STDERR_FILENO;
@@ -77,11 +83,13 @@ fn read_arguments() -> Asked {
     })
 }
 
-// Whether the arguments alone decide: 8 and 9 are tested before the buffer, which is refused with 10 where it is empty.
-fn is_decided(task: Task) -> bool {
+// Whether the arguments alone decide, so that nothing has to be read: an empty buffer is refused with 8 or 9 where every buffer is, and else with 10.
+fn is_decided(task: Task) -> bool
+    ensures { λ r. ⌜ (r ≡ true → (bytes : List ℕ) → find bytes (task .marker) (task .tolerance) (task .length) ≡ find [] (task .marker) (task .tolerance) (task .length)) ⌝ }
+{
     match finder::find(b"", task.marker, task.tolerance, task.length) {
         Answer::Refused(n) => n != 10,
-        Answer::Found(_, _, _) => true,
+        Answer::Found(_, _, _) => false,
     }
 }
 

@@ -1,10 +1,9 @@
 -- `finder::among` meets its contract: what a search from the position reached gives is the answer. Assumes nothing.
-use Prim.Native.Nat.{ℕ, _+_, _*_, _-_, _<_, _≤_}
-use mathlib.Core.Path.{_≡_, refl, sym, ap, _∙_}
+use Prim.Native.Nat.{_+_, _*_, _-_, _≤_}
+use mathlib.Core.Path.{_≡_, sym, _∙_}
 use mathlib.Core.Logic.{⊎-elim}
 use native.Mathlib.Omega.{arith}
 use borrow.Author.Needs.{needs}
-use borrow.Author.Tests.{leb-true, leb-false}
 use Rattle.finder.specs.Definition.{bits, mark, window, distance, first-from}
 use Rattle.finder.proofs.Distance.{distance-inside}
 use Rattle.finder.proofs.Positions.{far, far-later, goes-on, ends}

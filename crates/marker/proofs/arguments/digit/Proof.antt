@@ -3,8 +3,6 @@ use native.Mathlib.Omega.{arith}
 use Rattle.marker.proofs.Numerals.{within}
 use Rattle.marker.proofs.arguments.digit.Statement.{statement}
 use Rattle.marker.proofs.arguments.digit.Tie as tie
-use Rattle.marker.proofs.arguments.digit.Reads as reads
-use Rattle.marker.proofs.arguments.digit.Lts as lts
 
 sub-result : tie.Need-sub-result
 sub-result c = omega (arith, within 48 57 (c .before .args .c) (c .if1 .taken))

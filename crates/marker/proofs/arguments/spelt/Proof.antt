@@ -8,9 +8,6 @@ use Rattle.marker.specs.Arguments.{numeral, held}
 use Rattle.marker.proofs.Numerals.{product-lt, beyond, no-digit, read-on, all-read}
 use Rattle.marker.proofs.arguments.spelt.Statement.{statement}
 use Rattle.marker.proofs.arguments.spelt.Tie as tie
-use Rattle.marker.proofs.arguments.spelt.Reads as reads
-use Rattle.marker.proofs.arguments.spelt.Lts as lts
-use Rattle.marker.proofs.arguments.digit.Reads as digit-reads
 
 abbrev Inv-loop : tie.InvT-loop
 Inv-loop text base value₀ i₀ i-end value i = (i ≤ length text) × (value < 2 ^ 32) × (numeral base 0 text ≡ numeral base value (drop i text))
