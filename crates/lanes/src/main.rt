@@ -1,6 +1,5 @@
 // The program `lanes` (document 01): "reads a step list from standard input, starts from zero registers and scalar i32 0, and writes" what the run
 // leaves.
-mod input;
 mod listing;
 mod text;
 

@@ -50,7 +50,8 @@ first : (c : tie.After-apart Inv-loop μ-loop)
 first c =
     let given = c .before .before .before .before .before .args in
     let word = c .before .before .before .word-at in
-    c .apart .ensures ∙ distance-inside (given .buffer .now) (given .at) (c .before .before .loop .k) (word .result) (given .marker) (omega arith) (omega arith) (word .ensures)
+    c .apart .ensures
+    ∙ distance-inside (given .buffer .now) (given .at) (c .before .before .loop .k) (word .result) (given .marker) (omega arith) (omega arith) (word .ensures)
 
 returns : tie.Need-returns Inv-loop μ-loop
 returns c =
@@ -69,7 +70,8 @@ loop-again : tie.Need-loop-again Inv-loop μ-loop
 loop-again c =
     let given = c .before .before .before .before .before .before .args in
     let k = c .before .before .before .loop .k in
-    let on = goes-on (bits (given .buffer .now)) (mark (given .marker)) (given .tolerance) (given .frame) (given .count) k (8 * given .at) (omega arith) (c .before .before .before .loop .inv .1) in (
+    let reached = c .before .before .before .loop .inv .1 in
+    let on = goes-on (bits (given .buffer .now)) (mark (given .marker)) (given .tolerance) (given .frame) (given .count) k (8 * given .at) (omega arith) reached in (
       search needs,
       ⊎-elim (λ w. on (far-later _ _ _ _ (8 * given .at + k) (w .1 .ensures) (omega (arith, w .2))))
           (λ w. on (far _ _ _ _ (8 * given .at + k) (first (c .before)) (omega (arith, w)))) (c .if1 .came),
