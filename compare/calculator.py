@@ -1,7 +1,8 @@
-"""A second calculator, written from document 01 ("The calculator (added)", "Lane rules") and the standard's list of instruction numbers.
+"""A second calculator, written from document 01 ("The calculator (added)", "Lane rules"), document 02's orders and the standard's list of instruction
+numbers.
 
 It shares nothing with the crates. A vector is the number of its 128 bits; N is the width of a lane, as in the standard. What stands in quotation
-marks is document 01. `python3 compare/calculator.py < LIST` writes what the program `lanes` has to write for the list.
+marks is document 01, or document 02 where an order is named. `python3 compare/calculator.py < LIST` writes what the program `lanes` has to write for the list.
 
 The list of instruction numbers is the file that the variable OPCODES names (default: standard/opcodes.tsv in ../shared beside the repository, or in
 the folder that SHARED names).
@@ -57,15 +58,17 @@ LAYOUT = struct.Struct("<H6BI4s16s")
 SOURCES = ("a", "b", "c")
 
 
-# "State: 16 registers and one scalar."
+# "State: 16 registers and one scalar." "Each register shall carry, beside its vector, the number of the step that last wrote it in this run, 1 to 256,
+# or 0 if none." (order 1)
 class State(NamedTuple):
     registers: tuple
+    writers: tuple
     kind: str
     bits: int
 
 
 # "starts from zero registers and scalar i32 0"
-START = State((0,) * 16, "i32", 0)
+START = State((0,) * 16, (0,) * 16, "i32", 0)
 
 
 class Ending(NamedTuple):
@@ -307,14 +310,15 @@ def refusals(instruction, step, kind):
     return [number for number, holds in held.items() if holds]
 
 
-def after(instruction, step, state):
-    """The state after a step that is not refused."""
+def after(instruction, step, number, state):
+    """The state after a step that is not refused, the list's first being number 1."""
     given = result(instruction, step, state)
     if instruction.gives != "vector":
-        return State(state.registers, instruction.gives, given)
-    registers = list(state.registers)
+        return state._replace(kind=instruction.gives, bits=given)
+    registers, writers = list(state.registers), list(state.writers)
     registers[step.destination] = given
-    return state._replace(registers=tuple(registers))
+    writers[step.destination] = number
+    return state._replace(registers=tuple(registers), writers=tuple(writers))
 
 
 def run(instructions, data):
@@ -329,17 +333,20 @@ def run(instructions, data):
         refused = refusals(found, step, state.kind)
         if refused:
             return Ending(state, done, refused)
-        state = after(found, step, state)
+        state = after(found, step, done + 1, state)
     return Ending(state, len(data) // 32, [])
 
 
 def listing(ending):
     """What the program writes."""
-    registers, kind, bits = ending.state
+    registers, writers, kind, bits = ending.state
     # "`steps` and the count; one line for each register that is not all zero, lowest number first (`r` and two decimal digits, a space, then 16
-    # bytes in hex, byte 0 first); `s`, the kind and the bits in hex, highest digit first, 8 or 16 digits; `refused` and the number."
+    # bytes in hex, byte 0 first); `s`, the kind and the bits in hex, highest digit first, 8 or 16 digits; `refused` and the number." The step's number "in
+    # decimal at the end of each register line, after a space" (order 1).
     written = ["steps %d" % ending.done]
-    written += ["r%02d %s" % (number, vector.to_bytes(16, "little").hex()) for number, vector in enumerate(registers) if vector]
+    for number, (vector, writer) in enumerate(zip(registers, writers)):
+        if vector:
+            written.append("r%02d %s %d" % (number, vector.to_bytes(16, "little").hex(), writer))
     written += ["s %s %0*x" % (kind, int(kind[1:]) // 4, bits)]
     written += ["refused %d" % (ending.refusals[0] if ending.refusals else 0)]
     return "\n".join(written) + "\n"

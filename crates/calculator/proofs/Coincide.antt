@@ -1,4 +1,4 @@
--- Any two endings that a run's promise allows coincide: in the registers, the scalar's kind and bits, the count and the refusal. Assumes nothing.
+-- Any two endings that a run's promise allows coincide: in the registers, their writers, the scalar's kind and bits, the count and the refusal. Assumes nothing.
 use mathlib.Core.Path.{_≡_, refl, ap}
 use mathlib.Core.List.{List, [], _∷_, map}
 use Prim.Native.Nat.{ℕ}
@@ -26,6 +26,7 @@ registers-coincide (x ∷ xs) (y ∷ ys) hx hy e =
 
 pub record Alike (r q : Ending) : Type 0 where
   pub registers : r .state .registers ≡ q .state .registers
+  pub writers : r .state .writers ≡ q .state .writers
   pub kind : kind-of (r .state .scalar) ≡ kind-of (q .state .scalar)
   pub bits : bits-of (r .state .scalar) ≡ bits-of (q .state .scalar)
   pub done : r .done ≡ q .done
@@ -36,6 +37,7 @@ endings-coincide r q hr hq e =
     record {
       registers =
           registers-coincide (r .state .registers) (q .state .registers) hr hq (ap (λ (x : definition.Ending). x .machine .registers) e);
+      writers = ap (λ (x : definition.Ending). x .machine .writers) e;
       kind = ap (λ (x : definition.Ending). x .machine .kind) e;
       bits = ap (λ (x : definition.Ending). x .machine .bits) e;
       done = ap (λ (x : definition.Ending). x .done) e;

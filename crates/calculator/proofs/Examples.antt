@@ -1,5 +1,5 @@
--- The definition's run, computed: document 01's example of two steps and each refusal in one table with one theorem, and the lengths that pass.
--- Assumes nothing.
+-- The definition's run, computed: document 01's example of two steps, the numbers of order 1 and each refusal in one table with one theorem, and the
+-- lengths that pass. Assumes nothing.
 use mathlib.Core.Path.{_≡_, refl}
 use mathlib.Core.Bool.{true, false}
 use mathlib.Core.List.{List, [], _∷_, _++_, map}
@@ -7,10 +7,11 @@ use Prim.Native.Nat.{ℕ}
 use lib.ListN.{replicate, set}
 use Rattle.standard.specs.Lanes.{joined, unary, extract}
 use Rattle.standard.specs.Instruction.{i32, table, instruction}
-use Rattle.rules.specs.Definition.{Ending, start, refusal, effect, step, steps, whole-steps, run}
+use Rattle.rules.specs.Definition.{Machine, Ending, refusal, effect, step, steps, whole-steps, run}
 
-ending : List ℕ → ℕ → ℕ → Ending
-ending registers done number = record { machine = record { registers = registers; kind = i32; bits = 0 }; done = done; number = number }
+ending : List ℕ → List ℕ → ℕ → ℕ → Ending
+ending registers writers done number =
+    record { machine = record { registers = registers; writers = writers; kind = i32; bits = 0 }; done = done; number = number }
 
 upto : List ℕ
 upto = 0 ∷ 1 ∷ 2 ∷ 3 ∷ 4 ∷ 5 ∷ 6 ∷ 7 ∷ 8 ∷ 9 ∷ 10 ∷ 11 ∷ 12 ∷ 13 ∷ 14 ∷ 15 ∷ []
@@ -31,28 +32,43 @@ listing =
     set (set (replicate 16 0) 1 (joined 8 upto)) 2
     (joined 8 (0 ∷ 1 ∷ 1 ∷ 2 ∷ 1 ∷ 2 ∷ 2 ∷ 3 ∷ 1 ∷ 2 ∷ 2 ∷ 3 ∷ 2 ∷ 3 ∷ 3 ∷ 4 ∷ []))
 
+-- and their numbers: "in document 01's listing the two lines then end in " 1" and " 2"" (order 1)
+numbers : List ℕ
+numbers = set (set (replicate 16 0) 1 1) 2 2
+
+-- a start with numbers of an earlier run
+left-over : List ℕ
+left-over = replicate 16 9
+
+pub earlier : Machine
+unfolding left-over
+earlier = record { registers = replicate 16 0; writers = left-over; kind = i32; bits = 0 }
+
 pub record Case : Type 0 where
   pub list : List ℕ
   pub expected : Ending
 
 pub cases : List Case
-unfolding ending a-step two listing
+unfolding ending a-step upto two listing numbers left-over
 cases =
-    record { list = two; expected = ending listing 2 0 }
-    -- an empty list does 0 steps with 0; 65 bytes are refused
-    ∷ record { list = []; expected = ending (replicate 16 0) 0 0 }
-    ∷ record { list = 0 ∷ two; expected = ending (replicate 16 0) 0 1 }
+    record { list = two; expected = ending listing numbers 2 0 }
+    -- the last step that wrote register 1 is the third
+    ∷ record { list = two ++ a-step 12 1 0 0 upto; expected = ending listing (set numbers 1 3) 3 0 }
+    -- an empty list does 0 steps with 0; 65 bytes are refused, and leave the numbers as they were; a first step that is refused does not
+    ∷ record { list = []; expected = ending (replicate 16 0) (replicate 16 0) 0 0 }
+    ∷ record { list = 0 ∷ two; expected = ending (replicate 16 0) left-over 0 1 }
+    ∷ record { list = a-step 0 0 0 0 upto ++ two; expected = ending (replicate 16 0) (replicate 16 0) 0 2 }
     -- after two steps: a load; register 16; lane 16, and 15, of i8x16; index 32; a splat of an i64
-    ∷ record { list = two ++ a-step 0 0 0 0 (replicate 16 0); expected = ending listing 2 2 }
-    ∷ record { list = two ++ a-step 12 16 0 0 (replicate 16 0); expected = ending listing 2 3 }
-    ∷ record { list = two ++ a-step 22 255 1 16 (replicate 16 0); expected = ending listing 2 4 }
-    ∷ record { list = two ++ a-step 22 255 3 15 (replicate 16 0); expected = ending listing 3 0 }
-    ∷ record { list = two ++ a-step 13 0 0 0 (32 ∷ replicate 15 31); expected = ending listing 2 5 }
-    ∷ record { list = two ++ a-step 18 0 0 0 (replicate 16 0); expected = ending listing 2 6 }
+    ∷ record { list = two ++ a-step 0 0 0 0 (replicate 16 0); expected = ending listing numbers 2 2 }
+    ∷ record { list = two ++ a-step 12 16 0 0 (replicate 16 0); expected = ending listing numbers 2 3 }
+    ∷ record { list = two ++ a-step 22 255 1 16 (replicate 16 0); expected = ending listing numbers 2 4 }
+    ∷ record { list = two ++ a-step 22 255 3 15 (replicate 16 0); expected = ending listing numbers 3 0 }
+    ∷ record { list = two ++ a-step 13 0 0 0 (32 ∷ replicate 15 31); expected = ending listing numbers 2 5 }
+    ∷ record { list = two ++ a-step 18 0 0 0 (replicate 16 0); expected = ending listing numbers 2 6 }
     ∷ []
 
-pub examples-hold : map (λ (c : Case). run (c .list) start) cases ≡ map (λ (c : Case). c .expected) cases
-unfolding cases run steps step refusal effect instruction table unary extract
+pub examples-hold : map (λ (c : Case). run (c .list) earlier) cases ≡ map (λ (c : Case). c .expected) cases
+unfolding cases earlier run steps step refusal effect instruction table unary extract
 examples-hold = refl
 
 -- "8,192 bytes pass; 8,160 pass; 8,191, 8,193 and 8,224 are refused; an empty list does 0 steps with 0."

@@ -7,7 +7,7 @@ use lib.ListN.{length, getD, take, drop, length-drop}
 use lib.Seq.{getD-take, getD-drop}
 use Rattle.standard.specs.Refusal.{Answer, given, refused}
 use Rattle.standard.specs.Instruction.{Instruction, none, memory, const, shuffled, vector₁, vector₂, vector₃, shifted, tested, splatted, extracted, replaced, instruction}
-use Rattle.rules.specs.Definition.{Machine, Ending, bytes, operation, profile, refusal, effect, answer, step, after, steps, run}
+use Rattle.rules.specs.Definition.{Machine, Ending, reset, bytes, operation, profile, refusal, effect, answer, step, after, steps, run}
 use Rattle.calculator.specs.State.{machine}
 use Rattle.calculator.specs.Run.{ending-of}
 use Rattle.calculator.specs.declared.run.Ending as code
@@ -22,25 +22,25 @@ pub record MarksApart (a b : List ℕ) : Type 0 where
 cleared : List ℕ → List ℕ
 cleared s = bytes s 0 7 ++ (0 ∷ bytes s 8 24)
 
-same-effect : (i : Instruction) (m : Machine) (s : List ℕ) → effect i m s ≡ effect i m (cleared s)
+same-effect : (i : Instruction) (place : ℕ) (m : Machine) (s : List ℕ) → effect i place m s ≡ effect i place m (cleared s)
 unfolding effect cleared
-same-effect none m s = refl
-same-effect memory m s = refl
-same-effect const m s = refl
-same-effect shuffled m s = refl
-same-effect (vector₁ f) m s = refl
-same-effect (vector₂ f) m s = refl
-same-effect (vector₃ f) m s = refl
-same-effect (shifted f) m s = refl
-same-effect (tested f) m s = refl
-same-effect (splatted k f) m s = refl
-same-effect (extracted k w f) m s = refl
-same-effect (replaced k w f) m s = refl
+same-effect none place m s = refl
+same-effect memory place m s = refl
+same-effect const place m s = refl
+same-effect shuffled place m s = refl
+same-effect (vector₁ f) place m s = refl
+same-effect (vector₂ f) place m s = refl
+same-effect (vector₃ f) place m s = refl
+same-effect (shifted f) place m s = refl
+same-effect (tested f) place m s = refl
+same-effect (splatted k f) place m s = refl
+same-effect (extracted k w f) place m s = refl
+same-effect (replaced k w f) place m s = refl
 
-same-step : (m : Machine) (s : List ℕ) → step m s ≡ step m (cleared s)
+same-step : (place : ℕ) (m : Machine) (s : List ℕ) → step place m s ≡ step place m (cleared s)
 unfolding step refusal cleared
-same-step m s =
-    ap (λ (n : Machine). answer (refusal (profile (instruction (operation s))) (m .kind) s) n) (same-effect (instruction (operation s)) m s)
+same-step place m s =
+    ap (λ (n : Machine). answer (refusal (profile (instruction (operation s))) (m .kind) s) n) (same-effect (instruction (operation s)) place m s)
 
 same-bytes : (a b : List ℕ) (at n : ℕ) → ((i : ℕ) → at ≤ i → i < at + n → getD a i 0 ≡ getD b i 0) → bytes a at n ≡ bytes b at n
 same-bytes a b at zero h = refl
@@ -50,15 +50,15 @@ same-bytes a b at (suc n) h =
 around : {x y z w : List ℕ} → x ≡ y → z ≡ w → x ++ (0 ∷ z) ≡ y ++ (0 ∷ w)
 around e f = rw (e, f)
 
-step-alike : (m : Machine) (a b : List ℕ) → MarksApart a b → step m (take 32 a) ≡ step m (take 32 b)
+step-alike : (place : ℕ) (m : Machine) (a b : List ℕ) → MarksApart a b → step place m (take 32 a) ≡ step place m (take 32 b)
 unfolding cleared
-step-alike m a b apart =
+step-alike place m a b apart =
     let at : (i : ℕ) → i < 32 → (i ≡ 7 → ⊥) → getD (take 32 a) i 0 ≡ getD (take 32 b) i 0 =
     λ i l n. rw (getD-take, getD-take) (apart .same i (λ e. n (omega arith))) in
     let e : cleared (take 32 a) ≡ cleared (take 32 b) =
     around (same-bytes (take 32 a) (take 32 b) 0 7 (λ i l u. at i (omega arith) (λ z. omega arith)))
     (same-bytes (take 32 a) (take 32 b) 8 24 (λ i l u. at i (omega arith) (λ z. omega arith))) in
-    same-step m (take 32 a) ∙ ap (step m) e ∙ sym (same-step m (take 32 b))
+    same-step place m (take 32 a) ∙ ap (step place m) e ∙ sym (same-step place m (take 32 b))
 
 rest-alike : (a b : List ℕ) → MarksApart a b → MarksApart (drop 32 a) (drop 32 b)
 rest-alike a b apart =
@@ -75,12 +75,12 @@ steps-alike : (left : ℕ) (a b : List ℕ) → MarksApart a b → (m : Machine)
 unfolding steps
 steps-alike zero a b apart m done = refl
 steps-alike (suc left) a b apart m done =
-    rw (step-alike m a b apart)
-    (next-alike (step m (take 32 b)) _ _ _ (λ n. steps-alike left (drop 32 a) (drop 32 b) (rest-alike a b apart) n (suc done)))
+    rw (step-alike done m a b apart)
+    (next-alike (step done m (take 32 b)) _ _ _ (λ n. steps-alike left (drop 32 a) (drop 32 b) (rest-alike a b apart) n (suc done)))
 
 pub marks-unseen : (a b : List ℕ) → MarksApart a b → (m : Machine) → run a m ≡ run b m
 unfolding run
-marks-unseen a b apart m = rw (apart .long, steps-alike (length b / 32) a b apart m 0)
+marks-unseen a b apart m = rw (apart .long, steps-alike (length b / 32) a b apart (reset m) 0)
 
 -- the code's runs of the two lists, whose promises these are
 pub runs-alike : (a b : List ℕ) → MarksApart a b → (state : State) (r q : code.Ending) → ending-of r ≡ run a (machine state) → ending-of q ≡ run b (machine state) → ending-of r ≡ ending-of q

@@ -18,7 +18,7 @@ use Rattle.rules.proofs.shape.Shape.{the-type}
 use Rattle.operation.specs.Scalar.{scalar-of}
 use Rattle.operation.specs.declared.scalar.Scalar.{Scalar}
 use Rattle.calculator.specs.State.{vectors, held}
-use Rattle.calculator.specs.Done.{written, makes, does}
+use Rattle.calculator.specs.Done.{writes, does}
 
 record Passed (p : Profile) (k : Kind) (s : List ℕ) : Type 0 where
   registers : all-registers (used p s) ≡ true
@@ -58,79 +58,79 @@ low (x ∷ xs) h =
     let b = both (leb x 15) (all-registers xs) h in
     (low-bits x (leb-true x 15 (b .0)), low xs (b .1))
 
-leaves : (i : Instruction) (m : Machine) (s : List ℕ) → Passed (profile i) (m .kind) s → does (shape i) i m s ≡ effect i m s
+leaves : (i : Instruction) (place : ℕ) (m : Machine) (s : List ℕ) → Passed (profile i) (m .kind) s → does (shape i) i place m s ≡ effect i place m s
 unfolding effect
-leaves none m s p = refl
-leaves memory m s p = refl
-leaves const m s p =
+leaves none place m s p = refl
+leaves memory place m s p = refl
+leaves const place m s p =
     let r = low (used (profile const) s) (p .registers) in
     rw (r .0)
-leaves shuffled m s p =
+leaves shuffled place m s p =
     let r = low (used (profile shuffled) s) (p .registers) in
     rw (p .legal-indices, r .0, r .1 .0, r .1 .1 .0)
-leaves (vector₁ f) m s p =
+leaves (vector₁ f) place m s p =
     let r = low (used (profile (vector₁ f)) s) (p .registers) in
     rw (r .0, r .1 .0)
-leaves (vector₂ f) m s p =
+leaves (vector₂ f) place m s p =
     let r = low (used (profile (vector₂ f)) s) (p .registers) in
     rw (r .0, r .1 .0, r .1 .1 .0)
-leaves (vector₃ f) m s p =
+leaves (vector₃ f) place m s p =
     let r = low (used (profile (vector₃ f)) s) (p .registers) in
     rw (r .0, r .1 .0, r .1 .1 .0, r .1 .1 .1 .0)
-leaves (shifted f) m s p =
+leaves (shifted f) place m s p =
     let r = low (used (profile (shifted f)) s) (p .registers) in
     rw (r .0, r .1 .0)
-leaves (tested f) m s p =
+leaves (tested f) place m s p =
     let r = low (used (profile (tested f)) s) (p .registers) in
     rw (r .0)
-leaves (splatted k f) m s p =
+leaves (splatted k f) place m s p =
     let r = low (used (profile (splatted k f)) s) (p .registers) in
     rw (p .kind, r .0)
-leaves (extracted k w f) m s p =
+leaves (extracted k w f) place m s p =
     let r = low (used (profile (extracted k w f)) s) (p .registers) in
     rw (p .lanes, r .0)
-leaves (replaced k w f) m s p =
+leaves (replaced k w f) place m s p =
     let r = low (used (profile (replaced k w f)) s) (p .registers) in
     rw (p .kind, p .lanes, r .0, r .1 .0)
 
-pub done : (i : Instruction) (m : Machine) (s : List ℕ) → refusal (profile i) (m .kind) s ≡ 0 → does (shape i) i m s ≡ effect i m s
-done i m s h = leaves i m s (passed (profile i) (m .kind) s h)
+pub done : (i : Instruction) (place : ℕ) (m : Machine) (s : List ℕ) → refusal (profile i) (m .kind) s ≡ 0 → does (shape i) i place m s ≡ effect i place m s
+done i place m s h = leaves i place m s (passed (profile i) (m .kind) s h)
 
--- the scalar alone, and a vector in the destination
-pub another-scalar : (w : List ℕ) (r : Scalar) {x : Kind × ℕ} → scalar-of r ≡ x → held w r ≡ record { registers = vectors w; kind = x .0; bits = x .1 }
-another-scalar w r e = ap (λ (x : Kind × ℕ). record { registers = vectors w; kind = x .0; bits = x .1 }) e
+-- the scalar alone, and a vector in the destination with its writer
+pub another-scalar : (w n : List ℕ) (r : Scalar) {x : Kind × ℕ} → scalar-of r ≡ x → held w n r ≡ record { registers = vectors w; writers = n; kind = x .0; bits = x .1 }
+another-scalar w n r e = ap (λ (x : Kind × ℕ). record { registers = vectors w; writers = n; kind = x .0; bits = x .1 }) e
 
-pub another-register : {ws vs : List ℕ} (r : Scalar) → ws ≡ vs → _≡_ {A = Machine} (record { registers = ws; kind = scalar-of r .0; bits = scalar-of r .1 }) (record { registers = vs; kind = scalar-of r .0; bits = scalar-of r .1 })
-another-register r e = rw e
+pub another-register : {ws vs ms ns : List ℕ} (r : Scalar) → ws ≡ vs → ms ≡ ns → _≡_ {A = Machine} (record { registers = ws; writers = ms; kind = scalar-of r .0; bits = scalar-of r .1 }) (record { registers = vs; writers = ns; kind = scalar-of r .0; bits = scalar-of r .1 })
+another-register r e f = rw (e, f)
 
 -- the shapes whose vector is written, as a match's last arm says it
-abbrev writes : List ℕ
-writes = 1 ∷ 2 ∷ 3 ∷ 4 ∷ 5 ∷ 6 ∷ 8 ∷ 10 ∷ []
+abbrev writing : List ℕ
+writing = 1 ∷ 2 ∷ 3 ∷ 4 ∷ 5 ∷ 6 ∷ 8 ∷ 10 ∷ []
 
-pub stored : (x : Shape) (i : Instruction) (m : Machine) (s : List ℕ) → OneOf writes (tagOf the-type x) → does x i m s ≡ written m s (makes x i m s)
-stored Shape.None i m s h = absurd (miss writes 0 tt h)
-stored Shape.Constant i m s h = refl
-stored Shape.Shuffle i m s h = refl
-stored Shape.Unary i m s h = refl
-stored Shape.Binary i m s h = refl
-stored Shape.Ternary i m s h = refl
-stored Shape.Shift i m s h = refl
-stored Shape.Test i m s h = absurd (miss writes 7 tt h)
-stored (Shape.Splat k) i m s h = refl
-stored (Shape.Extract n) i m s h = absurd (miss writes 9 tt h)
-stored (Shape.Replace n k) i m s h = refl
+pub stored : (x : Shape) (i : Instruction) (place : ℕ) (m : Machine) (s : List ℕ) → OneOf writing (tagOf the-type x) → does x i place m s ≡ writes x i place m s
+stored Shape.None i place m s h = absurd (miss writing 0 tt h)
+stored Shape.Constant i place m s h = refl
+stored Shape.Shuffle i place m s h = refl
+stored Shape.Unary i place m s h = refl
+stored Shape.Binary i place m s h = refl
+stored Shape.Ternary i place m s h = refl
+stored Shape.Shift i place m s h = refl
+stored Shape.Test i place m s h = absurd (miss writing 7 tt h)
+stored (Shape.Splat k) i place m s h = refl
+stored (Shape.Extract n) i place m s h = absurd (miss writing 9 tt h)
+stored (Shape.Replace n k) i place m s h = refl
 
 -- a step whose operation's shape is x, where the judge says r
-module _ (m : Machine) (s : List ℕ) (op r : ℕ) (x : Shape) (o : op ≡ operation s) (d : x ≡ shape (instruction op)) (j : r ≡ refusal (profile-of x) (m .kind) s) where
+module _ (place : ℕ) (m : Machine) (s : List ℕ) (op r : ℕ) (x : Shape) (o : op ≡ operation s) (d : x ≡ shape (instruction op)) (j : r ≡ refusal (profile-of x) (m .kind) s) where
   judged : refusal (profile (instruction op)) (m .kind) s ≡ r
   judged = sym (j ∙ rw (d, profile-kept))
 
-  pub passes : (next : Machine) → r ≡ 0 → next ≡ does x (instruction op) m s → cond (eqb r 0) (given next) (refused r) ≡ step m s
+  pub passes : (next : Machine) → r ≡ 0 → next ≡ does x (instruction op) place m s → cond (eqb r 0) (given next) (refused r) ≡ step place m s
   unfolding step
   passes next z e =
-      let f : next ≡ effect (instruction op) m s = e ∙ rw d (done (instruction op) m s (judged ∙ z)) in
+      let f : next ≡ effect (instruction op) place m s = e ∙ rw d (done (instruction op) place m s (judged ∙ z)) in
       rw (← o, judged, f)
 
-  pub stops : (next : Machine) → (r ≡ 0 → ⊥) → cond (eqb r 0) (given next) (refused r) ≡ step m s
+  pub stops : (next : Machine) → (r ≡ 0 → ⊥) → cond (eqb r 0) (given next) (refused r) ≡ step place m s
   unfolding step
   stops next n = rw (← o, judged, ne-eqb r 0 n)

@@ -10,9 +10,9 @@ use Rattle.calculator.specs.State.{machine, held}
 use Rattle.calculator.specs.declared.step.Stepped.{Stepped}
 use Rattle.calculator.specs.declared.run.Ending.{Ending}
 
--- with the words that a step leaves
-abbrev pub answer-of : Stepped → List ℕ → Answer Machine
-answer-of r w = cond (eqb (r .refused) 0) (given (held w (r .scalar))) (refused (r .refused))
+-- with the words and the writers that a step leaves
+abbrev pub answer-of : Stepped → List ℕ → List ℕ → Answer Machine
+answer-of r w n = cond (eqb (r .refused) 0) (given (held w n (r .scalar))) (refused (r .refused))
 
 abbrev pub ends : Machine → ℕ → ℕ → definition.Ending
 ends m done n = record { machine = m; done = done; number = n }

@@ -1,4 +1,4 @@
--- The definition's machine that a state of the code stands for, and that the words of a run and its scalar stand for.
+-- The definition's machine that a state of the code stands for, and that the words of a run, its writers and its scalar stand for.
 use Prim.Native.Nat.{ℕ, _+_, _*_, _^_}
 use mathlib.Core.List.{List, [], _∷_, map}
 use Rattle.rules.specs.Definition.{Machine}
@@ -8,7 +8,13 @@ use Rattle.operation.specs.declared.scalar.Scalar.{Scalar}
 use Rattle.calculator.specs.declared.state.State.{State}
 
 abbrev pub machine : State → Machine
-machine s = record { registers = map number (s .registers); kind = kind-of (s .scalar); bits = bits-of (s .scalar) }
+machine s =
+    record {
+      registers = map number (s .registers);
+      writers = s .writers;
+      kind = kind-of (s .scalar);
+      bits = bits-of (s .scalar);
+    }
 
 -- two words a register, low half first
 abbrev pub vectors : List ℕ → List ℕ
@@ -16,5 +22,5 @@ vectors [] = []
 vectors (lo ∷ []) = lo ∷ []
 vectors (lo ∷ hi ∷ ws) = (lo + 2 ^ 64 * hi) ∷ vectors ws
 
-abbrev pub held : List ℕ → Scalar → Machine
-held w s = record { registers = vectors w; kind = kind-of s; bits = bits-of s }
+abbrev pub held : List ℕ → List ℕ → Scalar → Machine
+held w n s = record { registers = vectors w; writers = n; kind = kind-of s; bits = bits-of s }

@@ -21,12 +21,16 @@ pub struct Ending {
 // Refusal 1: "list length not a multiple of 32, or above 8,192".
 pub const LENGTH: u8 = 1;
 
-fn ended(w: [u64; 32], scalar: Scalar, done: usize, refused: u8) -> Ending
-    ensures { λ r. ⌜ ending-of r ≡ ends (held w scalar) done refused ⌝ }
+fn ended(w: [u64; 32], writers: [u16; 16], scalar: Scalar, done: usize, refused: u8) -> Ending
+    ensures { λ r. ⌜ ending-of r ≡ ends (held w writers scalar) done refused ⌝ }
 {
     let registers = of_words(w);
     Ending {
-        state: State { registers, scalar },
+        state: State {
+            registers,
+            writers,
+            scalar,
+        },
         done,
         refused,
     }
@@ -40,20 +44,21 @@ fn steps(state: State, list: &[u8]) -> Ending
     let n = list.len() / 32;
     let all = state.registers;
     let mut w = words(all);
+    let mut writers = state.writers;
     let mut scalar = state.scalar;
     let mut done = 0;
     while done < n {
         let at = 32 * done;
         let end = at + 32;
-        let stepped = step(&mut w, scalar, &list[at..end]);
+        let stepped = step(&mut w, &mut writers, scalar, done as u8, &list[at..end]);
         let refused = stepped.refused;
         scalar = stepped.scalar;
         if refused != 0 {
-            return ended(w, scalar, done, refused);
+            return ended(w, writers, scalar, done, refused);
         }
         done += 1;
     }
-    ended(w, scalar, done, 0)
+    ended(w, writers, scalar, done, 0)
 }
 
 pub fn run(state: State, list: &[u8]) -> Ending
@@ -61,7 +66,7 @@ pub fn run(state: State, list: &[u8]) -> Ending
 {
     if list.len() % 32 == 0 {
         if list.len() <= 8192 {
-            return steps(state, list);
+            return steps(state.reset(), list);
         }
     }
     Ending {

@@ -1,6 +1,6 @@
 // The calculator's state by value.
 ghost use mathlib.Core.Path.{_≡_};
-ghost use Rattle.rules.specs.Definition.{start};
+ghost use Rattle.rules.specs.Definition.{start, reset};
 ghost use Rattle.rules.specs.Shape.{the-kind};
 ghost use Rattle.operation.specs.Scalar.{kind-of};
 ghost use Rattle.calculator.specs.State.{machine};
@@ -10,6 +10,8 @@ use simd::V128;
 
 pub struct State {
     pub registers: [V128; 16],
+    // Beside each register the number of the step that wrote it.
+    pub writers: [u16; 16],
     pub scalar: Scalar,
 }
 
@@ -20,7 +22,22 @@ impl State {
     {
         State {
             registers: [V128 { lo: 0, hi: 0 }; 16],
+            writers: [0u16; 16],
             scalar: Scalar::I32(0),
+        }
+    }
+
+    // "A run resets all of them to 0 as it starts" (document 02, order 1).
+    pub fn reset(self) -> State
+        ensures { λ r. ⌜ machine r ≡ reset (machine self) ⌝ }
+    {
+        let registers = self.registers;
+        let writers = [0u16; 16];
+        let scalar = self.scalar;
+        State {
+            registers,
+            writers,
+            scalar,
         }
     }
 }

@@ -3,7 +3,8 @@ ghost use mathlib.Core.Path.{_≡_};
 ghost use Rattle.standard.specs.Instruction.{instruction};
 ghost use Rattle.rules.specs.Definition;
 ghost use Rattle.simd.specs.Number.{number};
-ghost use Rattle.calculator.specs.State.{held};
+ghost use Rattle.operation.specs.Scalar.{kind-of, bits-of};
+ghost use Rattle.calculator.specs.State.{vectors, held};
 ghost use Rattle.calculator.specs.Done.{makes, does};
 ghost use Rattle.calculator.specs.Run.{answer-of};
 use crate::registers::get;
@@ -22,6 +23,7 @@ use rules::fields::operation;
 use rules::judge::judge;
 use rules::shape::Shape;
 use rules::shape::decide;
+use rules::writers::wrote;
 use simd::V128;
 
 // The scalar after a step, and the number of its refusal; 0 for none.
@@ -31,10 +33,9 @@ pub struct Stepped {
 }
 
 // The vector that a step of a shape makes; source a where it makes none.
-fn make(w: &[u64; 32], scalar: Scalar, shape: Shape, op: u16, s: &[u8]) -> V128
-    ensures { λ r. ⌜ number r ≡ makes shape (instruction op) (held (now (w .entry)) scalar) (now (s .entry)) ⌝ }
+fn make(w: &[u64; 32], scalar: Scalar, shape: Shape, op: u16, mark: u8, s: &[u8]) -> V128
+    ensures { λ r. ⌜ number r ≡ makes shape (instruction op) (vectors (now (w .entry))) (kind-of scalar) (bits-of scalar) (now (s .entry)) ⌝ }
 {
-    let mark = byte(s, 7);
     let a = get(w, byte(s, 3));
     match shape {
         Shape::None => a,
@@ -51,33 +52,50 @@ fn make(w: &[u64; 32], scalar: Scalar, shape: Shape, op: u16, s: &[u8]) -> V128
     }
 }
 
-// "Extract, bitmask, any-true and all-true set [the scalar]"; every other step writes its vector to the destination.
-fn perform(w: &mut [u64; 32], scalar: Scalar, shape: Shape, op: u16, s: &[u8]) -> Scalar
-    ensures { λ r. ⌜ held (now (w .exit)) r ≡ does shape (instruction op) (held (now (w .entry)) scalar) (now (s .entry)) ⌝ }
+// "Extract, bitmask, any-true and all-true set [the scalar]"; every other step writes its vector to the destination, which then carries its number.
+fn perform(
+    w: &mut [u64; 32],
+    writers: &mut [u16; 16],
+    scalar: Scalar,
+    shape: Shape,
+    op: u16,
+    place: u8,
+    s: &[u8],
+) -> Scalar
+    ensures { λ r. ⌜ held (now (w .exit)) (now (writers .exit)) r ≡ does shape (instruction op) place (held (now (w .entry)) (now (writers .entry)) scalar) (now (s .entry)) ⌝ }
 {
+    let mark = byte(s, 7);
     match shape {
         Shape::None => scalar,
-        Shape::Test => Scalar::of_bits(choice::test(op, byte(s, 7), get(w, byte(s, 3)))),
+        Shape::Test => Scalar::of_bits(choice::test(op, mark, get(w, byte(s, 3)))),
         Shape::Extract(_) => extract(op, get(w, byte(s, 3)), byte(s, 6)),
         _ => {
-            let v = make(w, scalar, shape, op, s);
-            put(w, byte(s, 2), v);
+            let v = make(w, scalar, shape, op, mark, s);
+            let to = byte(s, 2);
+            put(w, to, v);
+            wrote(writers, to, place);
             scalar
         }
     }
 }
 
-// A refused step leaves the registers and the scalar as they were.
-pub fn step(w: &mut [u64; 32], scalar: Scalar, s: &[u8]) -> Stepped
-    ensures result { λ r. ⌜ answer-of r (now (w .exit)) ≡ Definition.step (held (now (w .entry)) scalar) (now (s .entry)) ⌝ }
-    ensures left { λ r. ⌜ ((r .refused ≡ 0 → ⊥) → (now (w .exit) ≡ now (w .entry)) × (r .scalar ≡ scalar)) ⌝ }
+// The step at a place, counted from 0. A refused step leaves the registers, their writers and the scalar as they were.
+pub fn step(
+    w: &mut [u64; 32],
+    writers: &mut [u16; 16],
+    scalar: Scalar,
+    place: u8,
+    s: &[u8],
+) -> Stepped
+    ensures result { λ r. ⌜ answer-of r (now (w .exit)) (now (writers .exit)) ≡ Definition.step place (held (now (w .entry)) (now (writers .entry)) scalar) (now (s .entry)) ⌝ }
+    ensures left { λ r. ⌜ ((r .refused ≡ 0 → ⊥) → (now (w .exit) ≡ now (w .entry)) × (now (writers .exit) ≡ now (writers .entry)) × (r .scalar ≡ scalar)) ⌝ }
 {
     let op = operation(s);
     let shape = decide(op);
     let refused = judge(shape, kind(scalar), s);
     if refused == 0 {
         Stepped {
-            scalar: perform(w, scalar, shape, op, s),
+            scalar: perform(w, writers, scalar, shape, op, place, s),
             refused,
         }
     } else {

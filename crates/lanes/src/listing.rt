@@ -13,21 +13,23 @@ fn decimal(n: u64) -> bool {
     io::print_decimal(STDOUT_FILENO, n) && put(b"\n")
 }
 
-// "`r` and two decimal digits, a space, then 16 bytes in hex, byte 0 first".
-fn register(number: u8, v: V128) -> bool {
+// "`r` and two decimal digits, a space, then 16 bytes in hex, byte 0 first"; the number of the step that wrote it "in decimal at the end of each
+// register line, after a space" (document 02, order 1).
+fn register(number: u8, v: V128, writer: u16) -> bool {
     put(b"r")
         && put(&text::two_decimals(number))
         && put(b" ")
         && put(&text::vector(v))
-        && put(b"\n")
+        && put(b" ")
+        && decimal(writer as u64)
 }
 
 // "one line for each register that is not all zero, lowest number first".
-fn registers(all: [V128; 16]) -> bool {
+fn registers(all: [V128; 16], writers: [u16; 16]) -> bool {
     for i in 0..16 {
         let v = all[i];
         let is_zero = v.lo == 0 && v.hi == 0;
-        if !is_zero && !register(i as u8, v) {
+        if !is_zero && !register(i as u8, v, writers[i]) {
             return false;
         }
     }
@@ -49,10 +51,11 @@ fn scalar(s: Scalar) -> bool {
 pub fn write(ending: Ending) -> bool {
     let state = ending.state;
     let all = state.registers;
+    let writers = state.writers;
     let held = state.scalar;
     put(b"steps ")
         && decimal(ending.done as u64)
-        && registers(all)
+        && registers(all, writers)
         && scalar(held)
         && put(b"refused ")
         && decimal(ending.refused as u64)

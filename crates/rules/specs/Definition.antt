@@ -1,5 +1,5 @@
--- The calculator (document 01, "The calculator (added)"): a step and a run, for every list of bytes and every start, over the standard's table.
--- In plain numbers: it knows nothing of marks, halves or code.
+-- The calculator (document 01, "The calculator (added)", and document 02's orders): a step and a run, for every list of bytes and every start, over
+-- the standard's table. In plain numbers: it knows nothing of marks, halves or code.
 use Prim.Native.Nat.{ℕ, zero, suc, _+_, _/_, _%_}
 use mathlib.Core.Bool.{Bool, true, false, cond}
 use mathlib.Core.List.{List, [], _∷_, _++_}
@@ -10,15 +10,21 @@ use Rattle.standard.specs.Vector.{shuffle}
 use Rattle.standard.specs.Refusal.{Answer, given, refused, legal}
 use Rattle.standard.specs.Instruction.{Kind, kind-number, i32, Instruction, none, memory, const, shuffled, vector₁, vector₂, vector₃, shifted, tested, splatted, extracted, replaced, instruction}
 
--- "State: 16 registers and one scalar. The scalar is an i32, an i64, an f32 or an f64": its kind and its bits.
+-- "State: 16 registers and one scalar. The scalar is an i32, an i64, an f32 or an f64": its kind and its bits. "Each register shall carry, beside its
+-- vector, the number of the step that last wrote it in this run, 1 to 256, or 0 if none" (order 1).
 pub record Machine : Type 0 where
   pub registers : List ℕ
+  pub writers : List ℕ
   pub kind : Kind
   pub bits : ℕ
 
 -- "starts from zero registers and scalar i32 0"
 abbrev pub start : Machine
-start = record { registers = replicate 16 0; kind = i32; bits = 0 }
+start = record { registers = replicate 16 0; writers = replicate 16 0; kind = i32; bits = 0 }
+
+-- "A run resets all of them to 0 as it starts" (order 1).
+abbrev pub reset : Machine → Machine
+reset m = record { registers = m .registers; writers = replicate 16 0; kind = m .kind; bits = m .bits }
 
 -- "A step is 32 bytes": the n of them from a place on, and the number that they stand for. "Numbers are little-endian."
 abbrev pub bytes : List ℕ → ℕ → ℕ → List ℕ
@@ -114,39 +120,47 @@ refusal p held s =
     (unless (cond (p .shuffles) (legal (indices s)) true) 5
     (unless (right-kind (p .reads) held) 6 0))))
 
--- The vector of a source, and the state with a vector at the destination, or with another scalar.
+-- The vector of a source, and the state with a vector at the destination, or with another scalar. A place in the list counts from 0, and a step's number
+-- from 1.
 abbrev pub source : Machine → List ℕ → ℕ → ℕ
 source m s j = getD (m .registers) (getD (sources s) j 0) 0
 
-abbrev pub put : Machine → List ℕ → ℕ → Machine
-put m s v = record { registers = set (m .registers) (destination s) v; kind = m .kind; bits = m .bits }
+abbrev pub put : ℕ → Machine → List ℕ → ℕ → Machine
+put place m s v =
+    record {
+      registers = set (m .registers) (destination s) v;
+      writers = set (m .writers) (destination s) (suc place);
+      kind = m .kind;
+      bits = m .bits;
+    }
 
 abbrev pub hold : Machine → Kind → ℕ → Machine
-hold m k b = record { registers = m .registers; kind = k; bits = b }
+hold m k b = record { registers = m .registers; writers = m .writers; kind = k; bits = b }
 
--- What a step that is not refused leaves. "Sources are read before the destination is written". "Extract, bitmask, any-true and all-true set
+-- What a step at a place that is not refused leaves. "Sources are read before the destination is written". "Extract, bitmask, any-true and all-true set
 -- [the scalar] (the last three as i32); splat and replace read it."
-unfoldable pub effect : Instruction → Machine → List ℕ → Machine
-effect none m s = m
-effect memory m s = m
-effect const m s = put m s (constant s)
-effect shuffled m s = put m s (shuffle (indices s) (source m s 0) (source m s 1))
-effect (vector₁ f) m s = put m s (f (source m s 0))
-effect (vector₂ f) m s = put m s (f (source m s 0) (source m s 1))
-effect (vector₃ f) m s = put m s (f (source m s 0) (source m s 1) (source m s 2))
-effect (shifted f) m s = put m s (f (count s) (source m s 0))
-effect (tested f) m s = hold m i32 (f (source m s 0))
-effect (splatted k f) m s = put m s (f (m .bits))
-effect (extracted k w f) m s = hold m k (f (source m s 0) (lane s))
-effect (replaced k w f) m s = put m s (f (source m s 0) (lane s) (m .bits))
+unfoldable pub effect : Instruction → ℕ → Machine → List ℕ → Machine
+effect none place m s = m
+effect memory place m s = m
+effect const place m s = put place m s (constant s)
+effect shuffled place m s = put place m s (shuffle (indices s) (source m s 0) (source m s 1))
+effect (vector₁ f) place m s = put place m s (f (source m s 0))
+effect (vector₂ f) place m s = put place m s (f (source m s 0) (source m s 1))
+effect (vector₃ f) place m s = put place m s (f (source m s 0) (source m s 1) (source m s 2))
+effect (shifted f) place m s = put place m s (f (count s) (source m s 0))
+effect (tested f) place m s = hold m i32 (f (source m s 0))
+effect (splatted k f) place m s = put place m s (f (m .bits))
+effect (extracted k w f) place m s = hold m k (f (source m s 0) (lane s))
+effect (replaced k w f) place m s = put place m s (f (source m s 0) (lane s) (m .bits))
 
--- A step: the state after it, or the number of its refusal.
+-- A step at a place: the state after it, or the number of its refusal.
 abbrev pub answer : ℕ → Machine → Answer Machine
 answer n m = cond (eqb n 0) (given m) (refused n)
 
-unfoldable pub step : Machine → List ℕ → Answer Machine
+unfoldable pub step : ℕ → Machine → List ℕ → Answer Machine
 unfolding refusal effect
-step m s = answer (refusal (profile (instruction (operation s))) (m .kind) s) (effect (instruction (operation s)) m s)
+step place m s =
+    answer (refusal (profile (instruction (operation s))) (m .kind) s) (effect (instruction (operation s)) place m s)
 
 -- What a run ends in. "The count is the number of steps before the refused one, or all."
 pub record Ending : Type 0 where
@@ -163,13 +177,14 @@ after (refused n) go stop = stop n
 unfoldable pub steps : ℕ → List ℕ → Machine → ℕ → Ending
 steps zero list m done = record { machine = m; done = done; number = 0 }
 steps (suc left) list m done =
-    after (step m (take 32 list)) (λ next. steps left (drop 32 list) next (suc done))
+    after (step done m (take 32 list)) (λ next. steps left (drop 32 list) next (suc done))
     (λ n. record { machine = m; done = done; number = n })
 
 -- 1: "list length not a multiple of 32, or above 8,192": "0 steps, state as given".
 abbrev pub whole-steps : List ℕ → Bool
 whole-steps list = cond (eqb (length list % 32) 0) (leb (length list) 8192) false
 
+-- The writers are reset "before [the] first step is judged", and "a list refused with 1 leaves them as they were" (order 1).
 unfoldable pub run : List ℕ → Machine → Ending
 run list m =
-    cond (whole-steps list) (steps (length list / 32) list m 0) (record { machine = m; done = 0; number = 1 })
+    cond (whole-steps list) (steps (length list / 32) list (reset m) 0) (record { machine = m; done = 0; number = 1 })

@@ -2,6 +2,7 @@
 use borrow.Author.Tests.{le-leb, lt-leb, ne-eqb}
 use Rattle.rules.specs.Definition.{run}
 use borrow.Author.Needs.{needs}
+use Rattle.rules.proofs.Shapes.{nothing}
 use Rattle.calculator.proofs.run.run.Statement.{statement}
 use Rattle.calculator.proofs.run.run.Tie as tie
 
@@ -10,7 +11,7 @@ steps-requires c κs = search needs
 
 returns : tie.Need-returns
 unfolding run
-returns c = rw (c .before .before .if1 .taken, le-leb _ _ (c .before .if2 .taken)) (c .steps .ensures)
+returns c = rw (c .before .before .before .if1 .taken, le-leb _ _ (c .before .before .if2 .taken), ← c .before .reset .ensures) (c .steps .ensures)
 
 returns-2 : tie.Need-returns-2
 unfolding run
@@ -21,4 +22,4 @@ unfolding run
 returns-3 c = rw (ne-eqb _ _ (c .if1 .left))
 
 pub run-spec : {M : Type 1} → statement M
-run-spec = tie.close (tie.spec steps-requires returns returns-2 returns-3)
+run-spec = tie.close (tie.spec nothing steps-requires returns returns-2 returns-3)

@@ -9,23 +9,23 @@ use Rattle.calculator.proofs.step.perform.Tie as tie
 
 returns-2 : tie.Need-returns-2
 returns-2 c =
-    rw (c .before .before .before .before .before .before .enum-told2 .given .1, ← c .before .before .before .byte2 .ensures, ← c .before .before .get .ensures, ← c .before .test .ensures)
-    (another-scalar (c .before .before .before .before .before .before .before .before .before .args .w .now) (c .of-bits .result) (c .of-bits .ensures))
+    rw (c .before .before .before .before .before .enum-told2 .given .1, ← c .before .before .before .byte2 .ensures, ← c .before .before .get .ensures, ← c .before .test .ensures)
+    (another-scalar (c .before .before .before .before .before .before .before .before .before .args .w .now) (c .before .before .before .before .before .before .before .before .before .args .writers .now) (c .of-bits .result) (c .of-bits .ensures))
 
 returns-3 : tie.Need-returns-3
 returns-3 c =
     rw (c .before .before .before .before .before .enum-told3 .given .1, ← c .before .before .before .byte3 .ensures, ← c .before .before .get2 .ensures, ← c .before .byte4 .ensures)
-    (another-scalar (c .before .before .before .before .before .before .before .before .args .w .now) (c .extract .result) (c .extract .ensures))
+    (another-scalar (c .before .before .before .before .before .before .before .before .before .args .w .now) (c .before .before .before .before .before .before .before .before .before .args .writers .now) (c .extract .result) (c .extract .ensures))
 
 returns-4 : tie.Need-returns-4
 returns-4 c =
-    let a = c .before .before .before .before .before .before .before .args in
-    rw (stored (a .shape) (instruction (a .op)) (held (a .w .now) (a .scalar)) (a .s .now) (c .before .before .before .before .before .match .keys4), ← c .before .before .before .make .ensures, ← c .before .byte5 .ensures)
-    (another-register (a .scalar) (c .put .ensures))
+    let a = c .before .before .before .before .before .before .before .before .before .before .args in
+    rw (stored (a .shape) (instruction (a .op)) (a .place) (held (a .w .now) (a .writers .now) (a .scalar)) (a .s .now) (c .before .before .before .before .before .before .before .match .keys4), ← c .before .before .before .before .before .make .ensures, ← c .before .before .before .before .byte5 .ensures)
+    (another-register (a .scalar) (c .before .before .put .ensures) (c .wrote .ensures))
 
 pub perform-spec : {M : Type 1} → statement M
 perform-spec =
     tie.close
     (tie.spec
-    (λ c. search needs) (λ c. search needs) nothing nothing nothing nothing nothing (λ c. search needs) nothing nothing nothing nothing nothing nothing nothing
+    nothing (λ c. search needs) (λ c. search needs) nothing nothing nothing nothing (λ c. search needs) nothing nothing nothing nothing nothing nothing nothing nothing
     (λ c. rw (c .enum-told .given .1)) returns-2 returns-3 returns-4)

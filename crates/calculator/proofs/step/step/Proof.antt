@@ -8,11 +8,11 @@ use Rattle.calculator.proofs.step.step.Tie as tie
 
 returns : tie.Need-returns
 returns c =
-    let j = c .before .before .before in
+    let j = c .before .before .before .before in
     let d = j .before .before in
     let a = d .before .before .before .args in
-    let t = c .before .before .if1 .taken in (
-      passes (held (a .w .now) (a .scalar)) (a .s .now) _ _ _ (d .before .operation .ensures) (d .decide .ensures) (rw (j .before .kind .ensures) at (j .judge .ensures)) _ t (c .perform .ensures),
+    let t = c .before .before .before .if1 .taken in (
+      passes (a .place) (held (a .w .now) (a .writers .now) (a .scalar)) (a .s .now) _ _ _ (d .before .operation .ensures) (d .decide .ensures) (rw (j .before .kind .ensures) at (j .judge .ensures)) _ t (c .perform .ensures),
       λ n. absurd (n t),
     )
 
@@ -21,8 +21,8 @@ returns-2 c =
     let j = c .before in
     let d = j .before .before in
     let a = d .before .before .before .args in (
-      stops (held (a .w .now) (a .scalar)) (a .s .now) _ _ _ (d .before .operation .ensures) (d .decide .ensures) (rw (j .before .kind .ensures) at (j .judge .ensures)) _ (c .if1 .left),
-      λ n. (refl, refl),
+      stops (a .place) (held (a .w .now) (a .writers .now) (a .scalar)) (a .s .now) _ _ _ (d .before .operation .ensures) (d .decide .ensures) (rw (j .before .kind .ensures) at (j .judge .ensures)) _ (c .if1 .left),
+      λ n. (refl, refl, refl),
     )
 
 pub step-spec : {M : Type 1} → statement M
