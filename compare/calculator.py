@@ -37,7 +37,7 @@ class Instruction(NamedTuple):
 
 
 # "0..1 operation, the standard's number after the 0xFD prefix; 2 destination; 3, 4, 5 sources a, b, c; 6 lane; 7 mark (0 lane by lane, anything else
-# packed); 8..11 shift count, unsigned; 12..15 ignored; 16..31 the constant of v128.const or the sixteen shuffle indices."
+# packed); [..] 12..15 ignored; 16..31 the constant of v128.const or the sixteen shuffle indices." "Bytes 8..11 are ignored." (order 2)
 class Step(NamedTuple):
     operation: int
     destination: int
@@ -46,13 +46,12 @@ class Step(NamedTuple):
     c: int
     lane: int
     mark: int
-    count: int
     ignored: bytes
     constant: bytes
 
 
 # "A step is 32 bytes"; "Numbers are little-endian."
-LAYOUT = struct.Struct("<H6BI4s16s")
+LAYOUT = struct.Struct("<H6B8s16s")
 
 # "The vector operands, in the standard's order, are a, b, c"
 SOURCES = ("a", "b", "c")
@@ -96,7 +95,8 @@ def instruction_of(row):
         name=row["name"],
         sources=int(row["vector sources"]),
         lane_count=256 if row["lane count"] == "-" else int(row["lane count"]),
-        reads=row["scalar read"],
+        # "a shift step with a scalar that is not i32 gives 6" (order 2)
+        reads="i32" if row["count field"] == "step" else row["scalar read"],
         has_indices=row["constant field"] == "indices",
         gives=row["result"].removeprefix("scalar "),
     )
@@ -249,7 +249,8 @@ def new_lanes(N, shape, operation, step, bits, vectors):
         padded = lanes(8, vectors[0]) + [0] * 240
         return [padded[index] for index in lanes(8, vectors[1])]
     if operation in SHIFT:
-        return [SHIFT[operation](N, i, step.count % N) for i in lanes(N, vectors[0])]
+        # "shift steps take [the count] from the scalar, read as unsigned 32 bits" (order 2)
+        return [SHIFT[operation](N, i, bits % N) for i in lanes(N, vectors[0])]
     other = OTHER_WIDTH.fullmatch(operation)
     if other:
         return from_other_width(N, other[1], int(other[2]), other[3], vectors)

@@ -4,8 +4,11 @@ use mathlib.Core.Path.{_≡_, refl}
 use mathlib.Core.Bool.{true, false}
 use mathlib.Core.List.{List, [], _∷_, _++_, map}
 use Prim.Native.Nat.{ℕ}
+use lib.IntN.{pos, negℤ}
 use lib.ListN.{replicate, set}
 use Rattle.standard.specs.Lanes.{joined, unary, extract}
+use Rattle.standard.specs.Integer.{modulo}
+use Rattle.standard.specs.Refusal.{given}
 use Rattle.standard.specs.Instruction.{i32, table, instruction}
 use Rattle.rules.specs.Definition.{Machine, Ending, refusal, effect, step, steps, whole-steps, run}
 
@@ -70,6 +73,37 @@ cases =
 pub examples-hold : map (λ (c : Case). run (c .list) earlier) cases ≡ map (λ (c : Case). c .expected) cases
 unfolding cases earlier run steps step refusal effect instruction table unary extract
 examples-hold = refl
+
+-- Order 2: register 1, whose lowest 32-bit lane begins and ends in a one, shifted into register 0 by a scalar; bytes 8..11 of the step hold other numbers.
+pub lane : ℕ
+lane = 2147483649
+
+pub holding : ℕ → ℕ → ℕ → Machine
+unfolding lane
+holding vector number scalar =
+    record { registers = vector ∷ lane ∷ []; writers = number ∷ 0 ∷ []; kind = i32; bits = scalar }
+
+pub a-shift : ℕ → List ℕ
+a-shift op = op ∷ 0 ∷ 0 ∷ 1 ∷ 0 ∷ 0 ∷ 0 ∷ 0 ∷ replicate 4 3
+
+pub record Shift : Type 0 where
+  pub op : ℕ
+  pub scalar : ℕ
+  pub expected : ℕ
+
+-- −1 shifts a 32-bit lane by 31: i32x4.shl, shr_s, shr_u; 8 leaves the lanes of i8x16.shl as they are
+pub shift-cases : List Shift
+unfolding lane
+shift-cases =
+    record { op = 171; scalar = modulo 32 (negℤ (pos 1)); expected = 2147483648 }
+    ∷ record { op = 172; scalar = modulo 32 (negℤ (pos 1)); expected = 4294967295 }
+    ∷ record { op = 173; scalar = modulo 32 (negℤ (pos 1)); expected = 1 }
+    ∷ record { op = 107; scalar = 8; expected = lane }
+    ∷ []
+
+pub shifts-hold : map (λ (c : Shift). step 0 (holding 0 0 (c .scalar)) (a-shift (c .op))) shift-cases ≡ map (λ (c : Shift). given (holding (c .expected) 1 (c .scalar))) shift-cases
+unfolding holding a-shift shift-cases step refusal effect instruction table unary
+shifts-hold = refl
 
 -- "8,192 bytes pass; 8,160 pass; 8,191, 8,193 and 8,224 are refused; an empty list does 0 steps with 0."
 pub lengths-that-pass : map (λ (n : ℕ). whole-steps (replicate n 0)) (0 ∷ 32 ∷ 8160 ∷ 8192 ∷ 8191 ∷ 8193 ∷ 8224 ∷ []) ≡ true ∷ true ∷ true ∷ true ∷ false ∷ false ∷ false ∷ []

@@ -79,7 +79,7 @@ leaves (vector₃ f) place m s p =
     rw (r .0, r .1 .0, r .1 .1 .0, r .1 .1 .1 .0)
 leaves (shifted f) place m s p =
     let r = low (used (profile (shifted f)) s) (p .registers) in
-    rw (r .0, r .1 .0)
+    rw (p .kind, r .0, r .1 .0)
 leaves (tested f) place m s p =
     let r = low (used (profile (tested f)) s) (p .registers) in
     rw (r .0)

@@ -1,12 +1,14 @@
 -- What the parts of the code do for a step of a shape, whether or not its instruction has that shape and whatever registers it names: between the code and
 -- the definition.
 use Prim.Native.Nat.{ℕ, suc, _%_}
+use mathlib.Core.Bool.{cond}
 use mathlib.Core.List.{List}
 use lib.ListN.{getD, set}
+use lib.Dec.{eqb}
 use Rattle.standard.specs.Vector.{shuffle}
 use Rattle.standard.specs.Refusal.{at-indices}
-use Rattle.standard.specs.Instruction.{Kind, Instruction, i32}
-use Rattle.rules.specs.Definition.{Machine, destination, lane, count, constant, indices, hold}
+use Rattle.standard.specs.Instruction.{Kind, kind-number, Instruction, i32}
+use Rattle.rules.specs.Definition.{Machine, destination, lane, constant, indices, hold}
 use Rattle.rules.specs.declared.shape.Shape.{Shape}
 use Rattle.operation.specs.Family.{given-or, as-unary, as-binary, as-ternary, as-shift, as-test, as-splat, as-extract, as-replace}
 
@@ -23,6 +25,10 @@ written place m s v =
       bits = m .bits;
     }
 
+-- the count of a shift: the bits of an i32, and of a scalar of another kind 0
+abbrev pub as-count : Kind → ℕ → ℕ
+as-count held b = cond (eqb (kind-number held) (kind-number i32)) b 0
+
 -- of the registers and the scalar's kind and bits
 abbrev pub makes : Shape → Instruction → List ℕ → Kind → ℕ → List ℕ → ℕ
 makes Shape.None i r k b s = named r s 3
@@ -31,7 +37,7 @@ makes Shape.Shuffle i r k b s = given-or (named r s 3) (at-indices (indices s) (
 makes Shape.Unary i r k b s = as-unary i (named r s 3)
 makes Shape.Binary i r k b s = as-binary i (named r s 3) (named r s 4)
 makes Shape.Ternary i r k b s = as-ternary i (named r s 3) (named r s 4) (named r s 5)
-makes Shape.Shift i r k b s = as-shift i (count s) (named r s 3)
+makes Shape.Shift i r k b s = as-shift i (as-count k b) (named r s 3)
 makes Shape.Test i r k b s = named r s 3
 makes (Shape.Splat x) i r k b s = as-splat k i b
 makes (Shape.Extract n) i r k b s = named r s 3

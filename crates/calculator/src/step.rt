@@ -5,11 +5,12 @@ ghost use Rattle.rules.specs.Definition;
 ghost use Rattle.simd.specs.Number.{number};
 ghost use Rattle.operation.specs.Scalar.{kind-of, bits-of};
 ghost use Rattle.calculator.specs.State.{vectors, held};
-ghost use Rattle.calculator.specs.Done.{makes, does};
+ghost use Rattle.calculator.specs.Done.{as-count, makes, does};
 ghost use Rattle.calculator.specs.Run.{answer-of};
 use crate::registers::get;
 use crate::registers::put;
 use crate::state::kind;
+use lane::reinterpret::unsigned32;
 use operation::extract::extract;
 use operation::given;
 use operation::replace::replace;
@@ -17,7 +18,6 @@ use operation::scalar::Scalar;
 use operation::splat::splat;
 use operation::ternary::ternary;
 use rules::fields::byte;
-use rules::fields::count;
 use rules::fields::indices;
 use rules::fields::operation;
 use rules::judge::judge;
@@ -32,6 +32,16 @@ pub struct Stepped {
     pub refused: u8,
 }
 
+// "shift steps take [the count] from the scalar, read as unsigned 32 bits" (document 02, order 2). A scalar of another kind is refused: 0.
+fn count(scalar: Scalar) -> u32
+    ensures { λ r. ⌜ r ≡ as-count (kind-of scalar) (bits-of scalar) ⌝ }
+{
+    match scalar {
+        Scalar::I32(x) => unsigned32(x),
+        _ => 0,
+    }
+}
+
 // The vector that a step of a shape makes; source a where it makes none.
 fn make(w: &[u64; 32], scalar: Scalar, shape: Shape, op: u16, mark: u8, s: &[u8]) -> V128
     ensures { λ r. ⌜ number r ≡ makes shape (instruction op) (vectors (now (w .entry))) (kind-of scalar) (bits-of scalar) (now (s .entry)) ⌝ }
@@ -44,7 +54,7 @@ fn make(w: &[u64; 32], scalar: Scalar, shape: Shape, op: u16, mark: u8, s: &[u8]
         Shape::Unary => choice::unary(op, mark, a),
         Shape::Binary => choice::binary(op, mark, a, get(w, byte(s, 4))),
         Shape::Ternary => ternary(op, a, get(w, byte(s, 4)), get(w, byte(s, 5))),
-        Shape::Shift => choice::shift(op, mark, a, count(s)),
+        Shape::Shift => choice::shift(op, mark, a, count(scalar)),
         Shape::Test => a,
         Shape::Splat(_) => splat(op, scalar),
         Shape::Extract(_) => a,

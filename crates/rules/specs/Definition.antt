@@ -47,10 +47,6 @@ sources s = bytes s 3 3
 abbrev pub lane : List ℕ → ℕ
 lane s = getD s 6 0
 
--- "8..11 shift count, unsigned"
-abbrev pub count : List ℕ → ℕ
-count s = field s 8 4
-
 -- "16..31 the constant of v128.const or the sixteen shuffle indices"
 abbrev pub constant : List ℕ → ℕ
 constant s = field s 16 16
@@ -70,7 +66,8 @@ pub record Profile : Type 0 where
   pub lane-count : ℕ
   -- whether the sixteen indices are used
   pub shuffles : Bool
-  -- the kind of the scalar that is read, if one is: "splat and replace read it. The kind must be the standard's for that instruction."
+  -- the kind of the scalar that is read, if one is: "splat and replace read it. The kind must be the standard's for that instruction."; "shift steps take
+  -- [the count] from the scalar" (order 2)
   pub reads : List Kind
 
 abbrev pub from-vectors : ℕ → Profile
@@ -88,7 +85,7 @@ profile shuffled = record { has-step = true; operands = 2; gives-vector = true; 
 profile (vector₁ f) = from-vectors 1
 profile (vector₂ f) = from-vectors 2
 profile (vector₃ f) = from-vectors 3
-profile (shifted f) = from-vectors 1
+profile (shifted f) = record { has-step = true; operands = 1; gives-vector = true; lane-count = 256; shuffles = false; reads = i32 ∷ [] }
 profile (tested f) = record { has-step = true; operands = 1; gives-vector = false; lane-count = 256; shuffles = false; reads = [] }
 profile (splatted k f) = record { has-step = true; operands = 0; gives-vector = true; lane-count = 256; shuffles = false; reads = k ∷ [] }
 profile (extracted k w f) = record { has-step = true; operands = 1; gives-vector = false; lane-count = 128 / w; shuffles = false; reads = [] }
@@ -138,7 +135,8 @@ abbrev pub hold : Machine → Kind → ℕ → Machine
 hold m k b = record { registers = m .registers; writers = m .writers; kind = k; bits = b }
 
 -- What a step at a place that is not refused leaves. "Sources are read before the destination is written". "Extract, bitmask, any-true and all-true set
--- [the scalar] (the last three as i32); splat and replace read it."
+-- [the scalar] (the last three as i32); splat and replace read it." The count of a shift is the scalar "read as unsigned 32 bits" (order 2), which the bits
+-- of an i32 are.
 unfoldable pub effect : Instruction → ℕ → Machine → List ℕ → Machine
 effect none place m s = m
 effect memory place m s = m
@@ -147,7 +145,7 @@ effect shuffled place m s = put place m s (shuffle (indices s) (source m s 0) (s
 effect (vector₁ f) place m s = put place m s (f (source m s 0))
 effect (vector₂ f) place m s = put place m s (f (source m s 0) (source m s 1))
 effect (vector₃ f) place m s = put place m s (f (source m s 0) (source m s 1) (source m s 2))
-effect (shifted f) place m s = put place m s (f (count s) (source m s 0))
+effect (shifted f) place m s = put place m s (f (m .bits) (source m s 0))
 effect (tested f) place m s = hold m i32 (f (source m s 0))
 effect (splatted k f) place m s = put place m s (f (m .bits))
 effect (extracted k w f) place m s = hold m k (f (source m s 0) (lane s))

@@ -41,7 +41,7 @@ profile-of Shape.Shuffle = profile shuffled
 profile-of Shape.Unary = from-vectors 1
 profile-of Shape.Binary = from-vectors 2
 profile-of Shape.Ternary = from-vectors 3
-profile-of Shape.Shift = from-vectors 1
+profile-of Shape.Shift = profile (shifted (λ n x. x))
 profile-of Shape.Test = profile (tested (λ x. x))
 profile-of (Shape.Splat k) = profile (splatted (the-kind k) (λ x. x))
 profile-of (Shape.Extract n) = record { has-step = true; operands = 1; gives-vector = false; lane-count = n; shuffles = false; reads = [] }

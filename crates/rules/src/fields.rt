@@ -18,22 +18,10 @@ fn pair(a: u8, b: u8) -> u16
     (a as u16) + 256 * (b as u16)
 }
 
-fn quad(a: u8, b: u8, c: u8, d: u8) -> u32
-    ensures { λ r. ⌜ r ≡ joined 8 (a ∷ b ∷ c ∷ d ∷ []) ⌝ }
-{
-    (a as u32) + 256 * ((b as u32) + 256 * ((c as u32) + 256 * (d as u32)))
-}
-
 pub fn operation(s: &[u8]) -> u16
     ensures { λ r. ⌜ r ≡ Definition.operation (now (s .entry)) ⌝ }
 {
     pair(byte(s, 0), byte(s, 1))
-}
-
-pub fn count(s: &[u8]) -> u32
-    ensures { λ r. ⌜ r ≡ Definition.count (now (s .entry)) ⌝ }
-{
-    quad(byte(s, 8), byte(s, 9), byte(s, 10), byte(s, 11))
 }
 
 // The constant of v128.const or the sixteen shuffle indices.

@@ -47,11 +47,11 @@ fn indices_fit(s: &[u8]) -> u8
     0
 }
 
-fn kind(held: Kind, read: Kind) -> u8
-    ensures { λ r. ⌜ r ≡ unless (eqb (kind-number (the-kind held)) (kind-number (the-kind read))) 6 0 ⌝ }
+fn kind(held: Kind, read: Kind, later: u8) -> u8
+    ensures { λ r. ⌜ r ≡ unless (eqb (kind-number (the-kind held)) (kind-number (the-kind read))) 6 later ⌝ }
 {
     if held.number() == read.number() {
-        0
+        later
     } else {
         KIND
     }
@@ -73,13 +73,13 @@ pub fn judge(shape: Shape, held: Kind, s: &[u8]) -> u8
         Shape::Unary => register(a, register(to, 0)),
         Shape::Binary => register(a, register(b, register(to, 0))),
         Shape::Ternary => register(a, register(b, register(c, register(to, 0)))),
-        Shape::Shift => register(a, register(to, 0)),
+        Shape::Shift => register(a, register(to, kind(held, Kind::I32, 0))),
         Shape::Test => register(a, 0),
-        Shape::Splat(read) => register(to, kind(held, read)),
+        Shape::Splat(read) => register(to, kind(held, read, 0)),
         Shape::Extract(lanes) => register(a, lane(place, lanes, 0)),
         Shape::Replace(lanes, read) => register(
             a,
-            register(to, lane(place, lanes, kind(held, read))),
+            register(to, lane(place, lanes, kind(held, read, 0))),
         ),
     }
 }

@@ -12,11 +12,14 @@ use Rattle.rules.proofs.Shapes.{nothing}
 use Rattle.calculator.proofs.step.make.Statement.{statement}
 use Rattle.calculator.proofs.step.make.Tie as tie
 
+at-shift : tie.Need-enum-told-7
+at-shift c = search needs
+
 pub make-spec : {M : Type 1} → statement M
 make-spec =
     tie.close
     (tie.spec
-    nothing nothing (λ c. search needs) (λ c. search needs) nothing nothing (λ c. search needs) nothing nothing nothing nothing nothing (λ c. search needs) nothing (λ c. search needs) nothing nothing nothing (λ c. search needs) nothing nothing nothing nothing nothing (λ c. search needs) nothing nothing (λ c. search needs) (λ c. search needs) nothing (λ c. search needs) (λ c. search needs) nothing nothing
+    nothing nothing (λ c. search needs) (λ c. search needs) nothing nothing (λ c. search needs) nothing nothing nothing nothing nothing (λ c. search needs) nothing (λ c. search needs) nothing nothing nothing (λ c. search needs) nothing nothing nothing nothing nothing at-shift nothing nothing (λ c. search needs) (λ c. search needs) nothing (λ c. search needs) (λ c. search needs) nothing nothing
     (λ c. rw (c .enum-told .given .1, ← c .before .before .before .byte .ensures) (c .before .before .get .ensures))
     (λ c. rw (c .before .before .enum-told2 .given .1) (c .join8 .ensures ∙ ap (joined 8) (c .before .indices .ensures)))
     (λ c.

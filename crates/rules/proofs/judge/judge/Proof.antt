@@ -27,7 +27,7 @@ returns-6 : tie.Need-returns-6
 returns-6 c = judged _ _ _ (c .before .before .before .before .enum-told6 .given .1) refl (rw (unused (c .before .before .before .before .before .before .byte5 .ok) (c .before .before .before .before .before .before .byte5 .ensures)) (cc))
 
 returns-7 : tie.Need-returns-7
-returns-7 c = judged _ _ _ (c .before .before .enum-told7 .given .1) refl (rw (unused (c .before .before .before .before .byte5 .ok) (c .before .before .before .before .byte5 .ensures)) (cc))
+returns-7 c = judged _ _ _ (c .before .before .before .enum-told7 .given .1) refl (rw (unused (c .before .before .before .before .before .byte5 .ok) (c .before .before .before .before .before .byte5 .ensures)) (cc))
 
 returns-8 : tie.Need-returns-8
 returns-8 c = judged _ _ _ (c .before .enum-told8 .given .1) refl (rw (unused (c .before .before .before .byte5 .ok) (c .before .before .before .byte5 .ensures)) (cc))
@@ -45,5 +45,5 @@ pub judge-spec : {M : Type 1} → statement M
 judge-spec =
     tie.close
     (tie.spec
-    nothing nothing nothing nothing nothing (λ c. search needs) (λ c. search needs) nothing (λ c. search needs) nothing nothing nothing nothing (λ c. search needs) nothing nothing (λ c. search needs) nothing nothing nothing (λ c. search needs) nothing nothing nothing nothing (λ c. search needs) nothing nothing (λ c. search needs) nothing (λ c. search needs) nothing nothing (λ c. search needs) nothing nothing (λ c. search needs) nothing nothing nothing nothing
+    nothing nothing nothing nothing nothing (λ c. search needs) (λ c. search needs) nothing (λ c. search needs) nothing nothing nothing nothing (λ c. search needs) nothing nothing (λ c. search needs) nothing nothing nothing (λ c. search needs) nothing nothing nothing nothing (λ c. search needs) nothing nothing nothing (λ c. search needs) nothing (λ c. search needs) nothing nothing (λ c. search needs) nothing nothing (λ c. search needs) nothing nothing nothing nothing
     returns returns-2 returns-3 returns-4 returns-5 returns-6 returns-7 returns-8 returns-9 returns-10 returns-11)
