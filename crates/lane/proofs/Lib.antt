@@ -1,5 +1,6 @@
 pub mod Magnitude
 pub mod Negation
 pub mod Product
+pub mod Rounded
 pub mod Saturation
 pub mod Signed

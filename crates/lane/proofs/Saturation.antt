@@ -62,6 +62,17 @@ module _ (v w : Width) (z : ℤ) (f : SFits w z) where
     pub s-inside : modulo (bits v) (toZ v (ofZ v (toZ w (ofZ w z)))) ≡ sat-s (bits v) z
     s-inside = rw (rw (toZ-ofZ f) at s, rw (toZ-ofZ f) at t, toZ-ofZ s-casts, toZ-ofZ f)
 
+-- the upper end alone, where q is z and z is known not to be below the range
+module _ (v : Width) {q z : ℤ} (e : q ≡ z) (s : ltZ z (negsuc (2 ^ (bits v - 1) - 1)) ≡ false) where
+  pub upper-past : ltZ (pos (2 ^ (bits v - 1) - 1)) q ≡ true → modulo (bits v) (pos (2 ^ (bits v - 1) - 1)) ≡ sat-s (bits v) z
+  upper-past t = rw (s, rw e at t)
+
+  pub upper-casts : ltZ (pos (2 ^ (bits v - 1) - 1)) q ≡ false → SFits v q
+  upper-casts t = in-signed v q (rw e s) t
+
+  pub upper-inside : ltZ (pos (2 ^ (bits v - 1) - 1)) q ≡ false → modulo (bits v) (toZ v (ofZ v q)) ≡ sat-s (bits v) z
+  upper-inside t = rw (toZ-ofZ (upper-casts t), s, rw e at t, e)
+
 -- the sum and the difference of two lanes, by a test that asks whether they stay in the range
 module _ (v : Width) {a b : ℕ} (f : Fits v a) (g : Fits v b) where
   pub sum-inside : a ≤ 2 ^ bits v - 1 - b → a + b ≡ sat-u (bits v) (pos a +ℤ pos b)

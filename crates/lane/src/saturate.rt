@@ -108,8 +108,14 @@ pub fn sub_sat_s16(a: u16, b: u16) -> u16
     sat_s16(wide16(a) - wide16(b))
 }
 
+// The rounded quotient is never below the range (document 02, order 3): the upper end alone is held.
 pub fn q15mulr_sat_s16(a: u16, b: u16) -> u16
     ensures { λ r. ⌜ r ≡ iq15mulrsat-s 16 a b ⌝ }
 {
-    sat_s16((wide16(a) * wide16(b) + 16384) >> 15)
+    let rounded = (wide16(a) * wide16(b) + 16384) >> 15;
+    if 32767 < rounded {
+        unsigned16(32767)
+    } else {
+        unsigned16(rounded as i16)
+    }
 }
