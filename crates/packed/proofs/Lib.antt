@@ -6,5 +6,5 @@ pub mod Zero
 pub mod Shifts
 pub mod Mean
 pub mod Ones
-pub mod Gather
+pub mod Signs
 pub mod Table

@@ -1,6 +1,5 @@
-// What is asked of all lanes of a half at once: any-true, all-true and bitmask (document 01, "Lane rules"; the standard, 4.4.3). For the bitmask the
-// sign bits are brought down to the lanes' lowest bits. Then a product by 2^s + 1 puts the bits of each second lane next to those of the lane below
-// it, in lanes of twice the width, until one lane has them all.
+// What is asked of all lanes of a half at once: any-true, all-true and bitmask (document 01, "Lane rules"; the standard, 4.4.3). The bitmask alone takes
+// the half apart into its lanes (document 02, order 7).
 ghost use mathlib.Core.Path.{_≡_};
 ghost use mathlib.Core.Bool.{cond};
 ghost use Rattle.standard.specs.Vector.{any-true};
@@ -8,9 +7,6 @@ ghost use Rattle.packed.specs.Half.{half-all-true, half-bitmask};
 use crate::compare::zeros8;
 use crate::compare::zeros16;
 use crate::compare::zeros32;
-use crate::masks::ONE8;
-use crate::masks::ONE16;
-use crate::masks::ONE32;
 
 pub fn any_true(a: u64) -> bool
     ensures { λ r. ⌜ cond r 1 0 ≡ any-true a ⌝ }
@@ -42,28 +38,37 @@ pub fn all_true64(a: u64) -> bool
     a != 0
 }
 
+// From the low end: bit i of the mask is the top bit of lane i, which is bit w·i + w − 1 of the half.
 pub fn bitmask8(a: u64) -> u32
     ensures { λ r. ⌜ r ≡ half-bitmask 8 a ⌝ }
 {
-    let ones = (a >> 7) & ONE8;
-    let twos = ((ones * 0x81) >> 7) & 0x0003_0003_0003_0003;
-    let fours = ((twos * 0x4001) >> 14) & 0x0000_000f_0000_000f;
-    (((fours * 0x1000_0001) >> 28) & 0xff) as u32
+    let mut mask = ((a >> 7) % 2) as u32;
+    mask |= (((a >> 15) % 2) as u32) << 1;
+    mask |= (((a >> 23) % 2) as u32) << 2;
+    mask |= (((a >> 31) % 2) as u32) << 3;
+    mask |= (((a >> 39) % 2) as u32) << 4;
+    mask |= (((a >> 47) % 2) as u32) << 5;
+    mask |= (((a >> 55) % 2) as u32) << 6;
+    mask |= (((a >> 63) % 2) as u32) << 7;
+    mask
 }
 
 pub fn bitmask16(a: u64) -> u32
     ensures { λ r. ⌜ r ≡ half-bitmask 16 a ⌝ }
 {
-    let ones = (a >> 15) & ONE16;
-    let twos = ((ones * 0x8001) >> 15) & 0x0000_0003_0000_0003;
-    (((twos * 0x4000_0001) >> 30) & 0xf) as u32
+    let mut mask = ((a >> 15) % 2) as u32;
+    mask |= (((a >> 31) % 2) as u32) << 1;
+    mask |= (((a >> 47) % 2) as u32) << 2;
+    mask |= (((a >> 63) % 2) as u32) << 3;
+    mask
 }
 
 pub fn bitmask32(a: u64) -> u32
     ensures { λ r. ⌜ r ≡ half-bitmask 32 a ⌝ }
 {
-    let ones = (a >> 31) & ONE32;
-    (((ones * 0x8000_0001) >> 31) & 3) as u32
+    let mut mask = ((a >> 31) % 2) as u32;
+    mask |= (((a >> 63) % 2) as u32) << 1;
+    mask
 }
 
 pub fn bitmask64(a: u64) -> u32

@@ -2,7 +2,7 @@
 use mathlib.Core.Path.{sym, _∙_}
 use borrow.Author.Needs.{needs}
 use Rattle.packed.specs.Half.{half-bitmask, sign-bit}
-use Rattle.packed.proofs.Gather.{top-sign}
+use Rattle.packed.proofs.Signs.{top-sign}
 use Rattle.packed.proofs.Whole.{one-lane}
 use Rattle.packed.proofs.reduce.bitmask64.Statement.{statement}
 use Rattle.packed.proofs.reduce.bitmask64.Tie as tie
