@@ -49,7 +49,7 @@ impl Record {
 /// How many requests are taken of a section's accepted ones, and of its requests with each refusal.
 fn share(section: &str, shape: Option<Shape>) -> usize {
     match (section, shape) {
-        ("edges" | "lane edges", _) => 6,
+        ("edges" | "lane edges" | "shortfalls", _) => 6,
         ("zero lanes", _) => 30,
         ("numbers" | "lengths", _) => 16,
         (_, Some(Shape::Memory(_))) => 2,

@@ -1,6 +1,6 @@
 //! Every base function under its number, with what it reads, and the call.
 
-use crate::wire::{Answer, MEMORY, NO_FUNCTION, Outcome, PACKED, Request, answer_bytes};
+use crate::wire::{ACCESS_REFUSED, Answer, MEMORY, NO_FUNCTION, Outcome, PACKED, Request, answer_bytes, set_shortfall};
 use crate::{FUNCTIONS, families};
 use std::sync::OnceLock;
 
@@ -37,6 +37,15 @@ pub struct Access {
     pub bytes: u64,
     pub at: bool,
     pub lanes: u8,
+}
+
+impl Access {
+    /// How far past the end the access of a request runs: the exact end minus the length, at most 2^64 - 1. The Rust has no such number.
+    fn shortfall(self, request: &Request) -> u64 {
+        let offset = if self.at { 0 } else { request.offset };
+        let end = u128::from(request.pointer) + u128::from(offset) + u128::from(self.bytes);
+        u64::try_from(end - u128::from(request.length)).unwrap_or(u64::MAX)
+    }
 }
 
 /// What an operation reads; the generator goes by it.
@@ -124,7 +133,7 @@ pub fn name(number: u16) -> String {
     }
 }
 
-/// The Rust's answer.
+/// The Rust's answer, and the shortfall of an access that it refuses.
 pub fn answer(request: &Request) -> Answer {
     let length = usize::from(request.length);
     let Some(entry) = entry(request.function).filter(|_| length <= MEMORY) else {
@@ -133,8 +142,12 @@ pub fn answer(request: &Request) -> Answer {
     let mut memory = request.memory;
     let lent = &mut memory[..length];
     let result = (entry.call)(request, lent);
-    match entry.shape {
-        Shape::Memory(_) => answer_bytes(result, lent),
-        _ => answer_bytes(result, &[]),
+    let Shape::Memory(access) = entry.shape else {
+        return answer_bytes(result, &[]);
+    };
+    let mut answer = answer_bytes(result, lent);
+    if let Err(ACCESS_REFUSED) = result {
+        set_shortfall(&mut answer, access.shortfall(request));
     }
+    answer
 }

@@ -141,3 +141,8 @@ pub fn answer_bytes(result: Result<Outcome, u8>, memory: &[u8]) -> Answer {
     bytes[32..32 + memory.len()].copy_from_slice(memory);
     bytes
 }
+
+/// Sets the shortfall that goes with refusal 7.
+pub fn set_shortfall(answer: &mut Answer, shortfall: u64) {
+    answer[8..16].copy_from_slice(&shortfall.to_le_bytes());
+}

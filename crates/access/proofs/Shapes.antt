@@ -5,41 +5,44 @@ use mathlib.Core.List.{List}
 use Prim.Native.Nat.{ℕ, _/_, _<_, _≤_}
 use borrow.Author.Tests.{lt-ltb, le-ltb}
 use Rattle.standard.specs.Lanes.{splat, extract, replace}
-use Rattle.standard.specs.Refusal.{Answer, given, refused, lane-first, at-lane}
+use Rattle.standard.specs.Refusal.{Answer, given, refused, at-lane}
 use Rattle.standard.specs.Vector.{widen}
-use Rattle.standard.specs.Memory.{number-at, load, load-splat, load-widen, load-lane, store, store-lane, Stored, kept, stored}
-use Rattle.access.proofs.Bounds.{onward, past}
+use Rattle.standard.specs.Memory.{answered, past, number-at, load, load-splat, load-widen, load-lane, store, store-lane, Stored, kept, stored}
+use Rattle.access.proofs.Bounds.{onward, handed-on}
 
 module _ (m : List ℕ) (at : ℕ) where
-  pub loaded : (n : ℕ) {x v : ℕ} → given x ≡ load n m at → v ≡ x → given v ≡ load n m at
-  loaded n p q = ap given q ∙ p
+  pub loaded : (n : ℕ) {x v : ℕ} → answered (given x) ≡ load n m at → v ≡ x → answered (given v) ≡ load n m at
+  loaded n p q = ap (λ (x : ℕ). answered (given x)) q ∙ p
 
-  pub splatted : (w : ℕ) {x v : ℕ} → given x ≡ load (w / 8) m at → v ≡ splat w x → given v ≡ load-splat w m at
+  pub splatted : (w : ℕ) {x v : ℕ} → answered (given x) ≡ load (w / 8) m at → v ≡ splat w x → answered (given v) ≡ load-splat w m at
   unfolding load load-splat
   splatted w p q = onward m at (w / 8) (number-at m at (w / 8)) (splat w) p q
 
-  pub unsplatted : (w : ℕ) → refused 7 ≡ load (w / 8) m at → refused 7 ≡ load-splat w m at
+  pub unsplatted : {s : ℕ} (w : ℕ) → past 7 s ≡ load (w / 8) m at → past 7 s ≡ load-splat w m at
   unfolding load load-splat
-  unsplatted w p = past m at (w / 8) (number-at m at (w / 8)) (splat w (number-at m at (w / 8))) p
+  unsplatted w p = handed-on m at (w / 8) (number-at m at (w / 8)) (splat w (number-at m at (w / 8))) p
 
-  pub widened : (sx : ℕ → ℕ → ℕ → ℕ) (w : ℕ) {x v : ℕ} → given x ≡ load 8 m at → v ≡ widen sx w x → given v ≡ load-widen sx w m at
+  pub widened : (sx : ℕ → ℕ → ℕ → ℕ) (w : ℕ) {x v : ℕ} → answered (given x) ≡ load 8 m at → v ≡ widen sx w x → answered (given v) ≡ load-widen sx w m at
   unfolding load load-widen
   widened sx w p q = onward m at 8 (number-at m at 8) (widen sx w) p q
 
-  pub unwidened : (sx : ℕ → ℕ → ℕ → ℕ) (w : ℕ) → refused 7 ≡ load 8 m at → refused 7 ≡ load-widen sx w m at
+  pub unwidened : {s : ℕ} (sx : ℕ → ℕ → ℕ → ℕ) (w : ℕ) → past 7 s ≡ load 8 m at → past 7 s ≡ load-widen sx w m at
   unfolding load load-widen
-  unwidened sx w p = past m at 8 (number-at m at 8) (widen sx w (number-at m at 8)) p
+  unwidened sx w p = handed-on m at 8 (number-at m at 8) (widen sx w (number-at m at 8)) p
 
   module _ (x w lane : ℕ) where
-    pub lane-loaded : {c : ℕ} {a : Answer ℕ} → given c ≡ load (w / 8) m at → a ≡ at-lane w lane (replace w x lane c) → a ≡ load-lane w x lane m at
+    pub lane-loaded : {c : ℕ} {a : Answer ℕ} → lane < 128 / w → answered (given c) ≡ load (w / 8) m at → a ≡ at-lane w lane (replace w x lane c)
+        → answered a ≡ load-lane w x lane m at
     unfolding load load-lane
-    lane-loaded p q = q ∙ ap (lane-first w lane) (onward m at (w / 8) (number-at m at (w / 8)) (replace w x lane) p refl)
+    lane-loaded h p q =
+        rw (lt-ltb lane (128 / w) h)
+        (ap answered (rw (lt-ltb lane (128 / w) h) at q) ∙ onward m at (w / 8) (number-at m at (w / 8)) (replace w x lane) p refl)
 
-    pub lane-unloaded : lane < 128 / w → refused 7 ≡ load (w / 8) m at → refused 7 ≡ load-lane w x lane m at
+    pub lane-unloaded : {s : ℕ} → lane < 128 / w → past 7 s ≡ load (w / 8) m at → past 7 s ≡ load-lane w x lane m at
     unfolding load load-lane
-    lane-unloaded h p = rw (lt-ltb lane (128 / w) h) (past m at (w / 8) (number-at m at (w / 8)) (replace w x lane (number-at m at (w / 8))) p)
+    lane-unloaded h p = rw (lt-ltb lane (128 / w) h) (handed-on m at (w / 8) (number-at m at (w / 8)) (replace w x lane (number-at m at (w / 8))) p)
 
-    pub lane-not-loaded : 128 / w ≤ lane → refused 4 ≡ load-lane w x lane m at
+    pub lane-not-loaded : 128 / w ≤ lane → answered (refused 4) ≡ load-lane w x lane m at
     unfolding load-lane
     lane-not-loaded h = rw (le-ltb lane (128 / w) h)
 

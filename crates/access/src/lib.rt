@@ -1,7 +1,7 @@
 // Memory (document 01, "Memory"): lent bytes, little-endian. One bounds test, and numbers of 1, 2, 4, 8 and 16 bytes read and written where it
 // allows the access. A number of 2n bytes is two numbers of n bytes, low one first.
 ghost use mathlib.Core.Path.{_≡_};
-ghost use Prim.Native.Nat.{_+_, _*_, _^_, _≤_};
+ghost use Prim.Native.Nat.{_+_, _-_, _*_, _^_, _≤_, min};
 ghost use lib.ListN.{length};
 ghost use Rattle.standard.specs.Memory.{within, number-at, with-number, load, store, stored};
 ghost use Rattle.access.specs.Access.{effective, access-answer, put-answer, fetched8, fetched16, fetched32, fetched64, fetched128};
@@ -15,31 +15,31 @@ pub enum Effective {
     Address(usize),
 }
 
-// The answer of the bounds test: where the first byte stands, or that the access runs past the end.
+// The answer of the bounds test: where the first byte stands, or the shortfall of an access that runs past the end.
 pub enum Access {
     At(usize),
-    Past,
+    Past(u64),
 }
 
-// The answer of a load: the number of the bytes, or that they are past the end.
+// The answer of a load: the number of the bytes, or the shortfall.
 pub enum Fetched8 {
     Number(u8),
-    Past,
+    Past(u64),
 }
 
 pub enum Fetched16 {
     Number(u16),
-    Past,
+    Past(u64),
 }
 
 pub enum Fetched32 {
     Number(u32),
-    Past,
+    Past(u64),
 }
 
 pub enum Fetched64 {
     Number(u64),
-    Past,
+    Past(u64),
 }
 
 // The 16 bytes of a vector, low half first.
@@ -50,13 +50,44 @@ pub struct Halves {
 
 pub enum Fetched128 {
     Number(Halves),
-    Past,
+    Past(u64),
 }
 
 // The answer of a store.
 pub enum Put {
     Done,
-    Past,
+    Past(u64),
+}
+
+// a less b, or 0 where b is larger.
+fn less(a: u64, b: u64) -> u64
+    ensures { λ r. ⌜ r ≡ a - b ⌝ }
+{
+    if a < b {
+        return 0;
+    }
+    a - b
+}
+
+// a and b together, or 2^64-1 where that is larger.
+fn held(a: u64, b: u64) -> u64
+    ensures { λ r. ⌜ r ≡ min (a + b) (2 ^ 64 - 1) ⌝ }
+{
+    if u64::MAX - b < a {
+        return u64::MAX;
+    }
+    a + b
+}
+
+// "the exact end of the access minus the length, or 2^64−1 where it is larger than that". The length is taken off before anything is added: off the
+// pointer, what is left of it off the offset, and what is left then off n. So no sum has to be larger than what is told.
+fn shortfall(length: u64, ptr: u64, offset: u64, n: u64) -> u64
+    ensures { λ r. ⌜ r ≡ min (ptr + offset + n - length) (2 ^ 64 - 1) ⌝ }
+{
+    let behind_pointer = less(length, ptr);
+    let behind_sum = less(behind_pointer, offset);
+    let sum = held(less(ptr, length), less(offset, behind_pointer));
+    held(sum, less(n, behind_sum))
 }
 
 // "allowed when the exact sum p + o + n is at most the length": a sum that has come round is below the pointer, and its exact value is past every
@@ -66,14 +97,8 @@ fn reach_sum(memory: &[u8], ptr: u64, offset: u64, n: usize) -> Access
 {
     let at = std::num::wrapping_add_u64(ptr, offset);
     let length = memory.len();
-    if at < ptr {
-        return Access::Past;
-    }
-    if length < n {
-        return Access::Past;
-    }
-    if ((length - n) as u64) < at {
-        return Access::Past;
+    if at < ptr || length < n || ((length - n) as u64) < at {
+        return Access::Past(shortfall(length as u64, ptr, offset, n as u64));
     }
     Access::At(at as usize)
 }
@@ -171,95 +196,105 @@ fn write128(memory: &mut [u8], at: usize, lo: u64, hi: u64)
 pub fn fetch8(memory: &[u8], ea: Effective) -> Fetched8
     ensures { λ r. ⌜ fetched8 r ≡ load 1 (now (memory .entry)) (effective ea) ⌝ }
 {
-    let Access::At(at) = reach(memory, ea, 1) else {
-        return Fetched8::Past;
-    };
-    Fetched8::Number(read8(memory, at))
+    match reach(memory, ea, 1) {
+        Access::At(at) => Fetched8::Number(read8(memory, at)),
+        Access::Past(short) => Fetched8::Past(short),
+    }
 }
 
 pub fn fetch16(memory: &[u8], ea: Effective) -> Fetched16
     ensures { λ r. ⌜ fetched16 r ≡ load 2 (now (memory .entry)) (effective ea) ⌝ }
 {
-    let Access::At(at) = reach(memory, ea, 2) else {
-        return Fetched16::Past;
-    };
-    Fetched16::Number(read16(memory, at))
+    match reach(memory, ea, 2) {
+        Access::At(at) => Fetched16::Number(read16(memory, at)),
+        Access::Past(short) => Fetched16::Past(short),
+    }
 }
 
 pub fn fetch32(memory: &[u8], ea: Effective) -> Fetched32
     ensures { λ r. ⌜ fetched32 r ≡ load 4 (now (memory .entry)) (effective ea) ⌝ }
 {
-    let Access::At(at) = reach(memory, ea, 4) else {
-        return Fetched32::Past;
-    };
-    Fetched32::Number(read32(memory, at))
+    match reach(memory, ea, 4) {
+        Access::At(at) => Fetched32::Number(read32(memory, at)),
+        Access::Past(short) => Fetched32::Past(short),
+    }
 }
 
 pub fn fetch64(memory: &[u8], ea: Effective) -> Fetched64
     ensures { λ r. ⌜ fetched64 r ≡ load 8 (now (memory .entry)) (effective ea) ⌝ }
 {
-    let Access::At(at) = reach(memory, ea, 8) else {
-        return Fetched64::Past;
-    };
-    Fetched64::Number(read64(memory, at))
+    match reach(memory, ea, 8) {
+        Access::At(at) => Fetched64::Number(read64(memory, at)),
+        Access::Past(short) => Fetched64::Past(short),
+    }
 }
 
 pub fn fetch128(memory: &[u8], ea: Effective) -> Fetched128
     ensures { λ r. ⌜ fetched128 r ≡ load 16 (now (memory .entry)) (effective ea) ⌝ }
 {
-    let Access::At(at) = reach(memory, ea, 16) else {
-        return Fetched128::Past;
-    };
-    Fetched128::Number(read128(memory, at))
+    match reach(memory, ea, 16) {
+        Access::At(at) => Fetched128::Number(read128(memory, at)),
+        Access::Past(short) => Fetched128::Past(short),
+    }
 }
 
 // A store of n bytes. Where it is refused, "memory unwritten".
 pub fn put8(memory: &mut [u8], ea: Effective, x: u8) -> Put
     ensures { λ r. ⌜ put-answer r (now (memory .exit)) ≡ stored (store 1 x (now (memory .entry)) (effective ea)) (now (memory .entry)) ⌝ }
 {
-    let Access::At(at) = reach(memory, ea, 1) else {
-        return Put::Past;
-    };
-    write8(memory, at, x);
-    Put::Done
+    match reach(memory, ea, 1) {
+        Access::At(at) => {
+            write8(memory, at, x);
+            Put::Done
+        }
+        Access::Past(short) => Put::Past(short),
+    }
 }
 
 pub fn put16(memory: &mut [u8], ea: Effective, x: u16) -> Put
     ensures { λ r. ⌜ put-answer r (now (memory .exit)) ≡ stored (store 2 x (now (memory .entry)) (effective ea)) (now (memory .entry)) ⌝ }
 {
-    let Access::At(at) = reach(memory, ea, 2) else {
-        return Put::Past;
-    };
-    write16(memory, at, x);
-    Put::Done
+    match reach(memory, ea, 2) {
+        Access::At(at) => {
+            write16(memory, at, x);
+            Put::Done
+        }
+        Access::Past(short) => Put::Past(short),
+    }
 }
 
 pub fn put32(memory: &mut [u8], ea: Effective, x: u32) -> Put
     ensures { λ r. ⌜ put-answer r (now (memory .exit)) ≡ stored (store 4 x (now (memory .entry)) (effective ea)) (now (memory .entry)) ⌝ }
 {
-    let Access::At(at) = reach(memory, ea, 4) else {
-        return Put::Past;
-    };
-    write32(memory, at, x);
-    Put::Done
+    match reach(memory, ea, 4) {
+        Access::At(at) => {
+            write32(memory, at, x);
+            Put::Done
+        }
+        Access::Past(short) => Put::Past(short),
+    }
 }
 
 pub fn put64(memory: &mut [u8], ea: Effective, x: u64) -> Put
     ensures { λ r. ⌜ put-answer r (now (memory .exit)) ≡ stored (store 8 x (now (memory .entry)) (effective ea)) (now (memory .entry)) ⌝ }
 {
-    let Access::At(at) = reach(memory, ea, 8) else {
-        return Put::Past;
-    };
-    write64(memory, at, x);
-    Put::Done
+    match reach(memory, ea, 8) {
+        Access::At(at) => {
+            write64(memory, at, x);
+            Put::Done
+        }
+        Access::Past(short) => Put::Past(short),
+    }
 }
 
 pub fn put128(memory: &mut [u8], ea: Effective, lo: u64, hi: u64) -> Put
     ensures { λ r. ⌜ put-answer r (now (memory .exit)) ≡ stored (store 16 (lo + 2 ^ 64 * hi) (now (memory .entry)) (effective ea)) (now (memory .entry)) ⌝ }
 {
-    let Access::At(at) = reach(memory, ea, 16) else {
-        return Put::Past;
-    };
-    write128(memory, at, lo, hi);
-    Put::Done
+    match reach(memory, ea, 16) {
+        Access::At(at) => {
+            write128(memory, at, lo, hi);
+            Put::Done
+        }
+        Access::Past(short) => Put::Past(short),
+    }
 }

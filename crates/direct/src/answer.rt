@@ -1,7 +1,9 @@
 // An answer before its memory: the refusal number, the kind of the result, and the result. What a result does not use is zero.
 use crate::layout::*;
+use access::PAST;
 use lane::reinterpret::unsigned32;
 use lane::reinterpret::unsigned64;
+use loads::LoadAnswer;
 use simd::V128;
 use simd::answer::F32Answer;
 use simd::answer::F64Answer;
@@ -42,6 +44,17 @@ impl Answer {
             refusal: number,
             kind: NOTHING,
             bits: 0,
+            vector: zero,
+        }
+    }
+
+    // An access past the end, with its shortfall.
+    fn past(short: u64) -> Answer {
+        let zero = V128 { lo: 0, hi: 0 };
+        Answer {
+            refusal: PAST,
+            kind: NOTHING,
+            bits: short,
             vector: zero,
         }
     }
@@ -123,11 +136,20 @@ impl Answer {
         }
     }
 
+    pub fn of_load(v: LoadAnswer) -> Answer {
+        match v {
+            LoadAnswer::Vector(x) => Answer::vector(x),
+            LoadAnswer::Refused(number) => Answer::refused(number),
+            LoadAnswer::Past(short) => Answer::past(short),
+        }
+    }
+
     // A store has no result: what it wrote is in the memory.
     pub fn of_store(v: StoreAnswer) -> Answer {
         match v {
             StoreAnswer::Done => Answer::scalar(NOTHING, 0),
             StoreAnswer::Refused(number) => Answer::refused(number),
+            StoreAnswer::Past(short) => Answer::past(short),
         }
     }
 

@@ -1,5 +1,5 @@
 // Loads and stores: functions 220 to 231, 234 to 253 and 260 to 271, in the form at pointer and offset and in the form at an address. An access past
-// the end is refused, with 7, after a lane number that is too large, with 4.
+// the end is refused, with 7 and its shortfall, after a lane number that is too large, with 4.
 use crate::answer::Answer;
 use simd::V128;
 
@@ -45,7 +45,7 @@ pub fn load(f: u16, pointer: u64, offset: u64, memory: &[u8]) -> Answer {
         265 => loads::v128_load32x2_u(memory, pointer, offset),
         _ => return Answer::none(),
     };
-    Answer::of_vector(answered)
+    Answer::of_load(answered)
 }
 
 // Loads of a whole vector at an address.
@@ -66,7 +66,7 @@ pub fn load_at(f: u16, address: usize, memory: &[u8]) -> Answer {
         271 => loads::v128_load32x2_u_at(memory, address),
         _ => return Answer::none(),
     };
-    Answer::of_vector(answered)
+    Answer::of_load(answered)
 }
 
 // Loads of one lane of a at pointer and offset.
@@ -78,7 +78,7 @@ pub fn load_lane(f: u16, a: V128, pointer: u64, offset: u64, lane: u8, memory: &
         249 => loads::v128_load64_lane(memory, pointer, offset, a, lane),
         _ => return Answer::none(),
     };
-    Answer::of_vector(answered)
+    Answer::of_load(answered)
 }
 
 // Loads of one lane of a at an address.
@@ -90,5 +90,5 @@ pub fn load_lane_at(f: u16, a: V128, address: usize, lane: u8, memory: &[u8]) ->
         253 => loads::v128_load64_lane_at(memory, address, a, lane),
         _ => return Answer::none(),
     };
-    Answer::of_vector(answered)
+    Answer::of_load(answered)
 }

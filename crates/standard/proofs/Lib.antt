@@ -8,4 +8,5 @@ pub mod Numbers
 pub mod Pairs
 pub mod Rearrange
 pub mod Reduce
+pub mod Shortfalls
 pub mod Widths

@@ -1,5 +1,6 @@
 // Stores (document 01, "Memory"), under the Rust's names. The two forms of each instruction, at pointer and offset and at an address, differ in the effective
-// address alone and share one private function. A lane store tests the lane, 4, before the bounds, 7.
+// address alone and share one private function. A lane store tests the lane, 4, before the bounds, 7. With each 7 goes the shortfall (document 02,
+// order 9).
 ghost use mathlib.Core.Path.{_≡_};
 ghost use mathlib.Core.List.{List};
 ghost use Prim.Native.Nat.{ℕ, _+_};
@@ -8,7 +9,6 @@ ghost use Rattle.access.specs.Access.{effective, put-answer};
 ghost use Rattle.simd.specs.Number.{number};
 ghost use Rattle.stores.specs.Answer.{store-answer};
 use access::Effective;
-use access::PAST;
 use access::Put;
 use access::put8;
 use access::put16;
@@ -18,10 +18,12 @@ use access::put128;
 use simd::V128;
 use simd::answer::LANE;
 
-// What it wrote is in the memory that it was lent.
+// What it wrote is in the memory that it was lent; or the number of a refusal, for a lane that is not below the lane count; or the shortfall of an access
+// past the end.
 pub enum StoreAnswer {
     Done,
     Refused(u8),
+    Past(u64),
 }
 
 // The answer of a store; the memory is what the store left.
@@ -30,7 +32,7 @@ fn answered(p: Put) -> StoreAnswer
 {
     match p {
         Put::Done => StoreAnswer::Done,
-        Put::Past => StoreAnswer::Refused(PAST),
+        Put::Past(short) => StoreAnswer::Past(short),
     }
 }
 

@@ -1,4 +1,4 @@
-//! Requests for loads and stores: every length, the places around each bound, sums that would come round, lane numbers.
+//! Requests for loads and stores: every length, the places around each bound, sums that would come round, shortfalls that are held, lane numbers.
 
 use super::random::Random;
 use super::{Generator, RANDOM};
@@ -83,6 +83,25 @@ fn far_places(generator: &mut Generator, access: Access) {
     }
 }
 
+/// Exact shortfalls around the largest that is told, 2^64 - 1.
+fn shortfalls(generator: &mut Generator, access: Access) {
+    generator.section("shortfalls");
+    for length in [0, 1, 5, 16, 48] {
+        for exact in [(1 << 64) - 2, (1 << 64) - 1, 1 << 64] {
+            let sum = exact + u128::from(length) - u128::from(access.bytes);
+            let pointer = u64::try_from(sum).unwrap_or(u64::MAX);
+            let offset = (sum - u128::from(pointer)) as u64;
+            if !access.at || offset == 0 {
+                generator.add(|request, random| {
+                    lend(request, length, random);
+                    place(request, access, pointer, offset);
+                    valid_lane(request, access);
+                });
+            }
+        }
+    }
+}
+
 /// Every lane number with an access that fits and one that does not.
 fn lane_numbers(generator: &mut Generator, access: Access) {
     generator.section("lane edges");
@@ -111,6 +130,7 @@ pub fn access(generator: &mut Generator, access: Access) {
     edges(generator, access);
     places(generator, access);
     far_places(generator, access);
+    shortfalls(generator, access);
     if access.lanes > 0 {
         lane_numbers(generator, access);
     }

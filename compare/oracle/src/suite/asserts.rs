@@ -3,7 +3,7 @@
 use super::{bits, bytes, place, result, vector};
 use crate::records::Record;
 use crate::table::{self, Access, Shape};
-use crate::wire::{MEMORY, PACKED, Request};
+use crate::wire::{MEMORY, PACKED, Request, set_shortfall};
 use std::collections::BTreeMap;
 
 /// What the file gives.
@@ -54,10 +54,13 @@ fn request(number: u16, shape: Shape, columns: &[&str]) -> Request {
 }
 
 /// Sets the memory and the place, and the memory that is expected afterwards. A load finds the row's bytes at its place, a store
-/// leaves them there.
+/// leaves them there. The shortfall of a trap is that of the suite's own access.
 fn set_memory(record: &mut Record, access: Access, columns: &[&str]) -> Option<()> {
     let number = |column: usize| columns[column].parse::<u64>().expect("a number");
     assert_eq!(number(12), 65_536);
+    if columns[9] == "trap" {
+        set_shortfall(&mut record.expected, number(10) + number(11) + access.bytes - number(12));
+    }
     let (pointer, offset) = place::place(number(10), number(11), access.bytes)?;
     (record.request.pointer, record.request.offset) = (pointer, offset);
     record.request.length = MEMORY as u8;

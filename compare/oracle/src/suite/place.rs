@@ -3,7 +3,7 @@
 //! An access within the first 48 bytes keeps pointer and offset, and the request's memory stands for those first 48 bytes. Every other
 //! access of the suite lies in the last 48 bytes or runs past the end: there the request's memory stands for the last 48 bytes, and
 //! 65,488 is taken off the pointer, or off the offset as far as the pointer is too small. The exact sum of pointer, offset and size
-//! then exceeds 48 if and only if the suite's exceeds 65,536.
+//! then exceeds 48 if and only if the suite's exceeds 65,536, and by as much.
 
 use crate::wire::MEMORY;
 

@@ -10,18 +10,19 @@ reach-requires c κs = search needs
 enum-known-at : tie.Need-enum-known-at
 enum-known-at c = search needs
 
-enum-told : tie.Need-enum-told
-enum-told c = search needs
-
-returns : tie.Need-returns
-returns c = unfetched _ _ _ (rw (c .enum-told .given .1) at (c .before .before .reach .ensures))
-
 read16-requires : tie.Need-read16-requires
 read16-requires c κs = reached _ _ _ (rw (c .before .at .given .1) at (c .before .before .before .reach .ensures))
 
+enum-known-short : tie.Need-enum-known-short
+enum-known-short c = search needs
+
+returns : tie.Need-returns
+returns c = fetched _ _ _ (rw (c .before .before .at .given .1) at (c .before .before .before .before .reach .ensures)) (c .read16 .ensures)
+
 returns-2 : tie.Need-returns-2
-returns-2 c = fetched _ _ _ (rw (c .before .before .at .given .1) at (c .before .before .before .before .reach .ensures)) (c .read16 .ensures)
+returns-2 c = unfetched _ _ _ (rw (c .before .short .given .1) at (c .before .before .before .reach .ensures))
 
 pub fetch16-spec : {M : Type 1} → statement M
 fetch16-spec =
-    tie.close (tie.spec reach-requires enum-known-at enum-told returns read16-requires returns-2)
+    tie.close
+    (tie.spec reach-requires enum-known-at read16-requires enum-known-short returns returns-2)

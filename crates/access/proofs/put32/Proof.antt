@@ -10,23 +10,23 @@ reach-requires c κs = search needs
 enum-known-at : tie.Need-enum-known-at
 enum-known-at c = search needs
 
-enum-told : tie.Need-enum-told
-enum-told c = search needs
+write32-requires : tie.Need-write32-requires
+write32-requires c κs = reached _ _ _ (rw (c .before .before .at .given .1) at (c .before .before .before .before .reach .ensures))
+
+enum-known-short : tie.Need-enum-known-short
+enum-known-short c = search needs
 
 same-length : tie.Need-same-length
 same-length c = search needs
 
 returns : tie.Need-returns
-returns c = unput _ _ _ _ (rw (c .enum-told .given .1) at (c .before .before .reach .ensures))
-
-write32-requires : tie.Need-write32-requires
-write32-requires c κs = reached _ _ _ (rw (c .before .before .at .given .1) at (c .before .before .before .before .reach .ensures))
+returns c = put _ _ _ _ (rw (c .before .before .before .before .before .at .given .1) at (c .before .before .before .before .before .before .before .reach .ensures)) (c .before .before .write32 .ensures)
 
 same-length-2 : tie.Need-same-length-2
 same-length-2 c = search needs
 
 returns-2 : tie.Need-returns-2
-returns-2 c = put _ _ _ _ (rw (c .before .before .before .before .before .at .given .1) at (c .before .before .before .before .before .before .before .reach .ensures)) (c .before .before .write32 .ensures)
+returns-2 c = unput _ _ _ _ (rw (c .before .short .given .1) at (c .before .before .before .reach .ensures))
 
 pub put32-spec : {M : Type 1} → statement M
 put32-spec =
@@ -34,9 +34,9 @@ put32-spec =
     (tie.spec
     reach-requires
     enum-known-at
-    enum-told
+    write32-requires
+    enum-known-short
     same-length
     returns
-    write32-requires
     same-length-2
     returns-2)

@@ -10,23 +10,23 @@ reach-requires c κs = search needs
 enum-known-at : tie.Need-enum-known-at
 enum-known-at c = search needs
 
-enum-told : tie.Need-enum-told
-enum-told c = search needs
+write64-requires : tie.Need-write64-requires
+write64-requires c κs = reached _ _ _ (rw (c .before .before .at .given .1) at (c .before .before .before .before .reach .ensures))
+
+enum-known-short : tie.Need-enum-known-short
+enum-known-short c = search needs
 
 same-length : tie.Need-same-length
 same-length c = search needs
 
 returns : tie.Need-returns
-returns c = unput _ _ _ _ (rw (c .enum-told .given .1) at (c .before .before .reach .ensures))
-
-write64-requires : tie.Need-write64-requires
-write64-requires c κs = reached _ _ _ (rw (c .before .before .at .given .1) at (c .before .before .before .before .reach .ensures))
+returns c = put _ _ _ _ (rw (c .before .before .before .before .before .at .given .1) at (c .before .before .before .before .before .before .before .reach .ensures)) (c .before .before .write64 .ensures)
 
 same-length-2 : tie.Need-same-length-2
 same-length-2 c = search needs
 
 returns-2 : tie.Need-returns-2
-returns-2 c = put _ _ _ _ (rw (c .before .before .before .before .before .at .given .1) at (c .before .before .before .before .before .before .before .reach .ensures)) (c .before .before .write64 .ensures)
+returns-2 c = unput _ _ _ _ (rw (c .before .short .given .1) at (c .before .before .before .reach .ensures))
 
 pub put64-spec : {M : Type 1} → statement M
 put64-spec =
@@ -34,9 +34,9 @@ put64-spec =
     (tie.spec
     reach-requires
     enum-known-at
-    enum-told
+    write64-requires
+    enum-known-short
     same-length
     returns
-    write64-requires
     same-length-2
     returns-2)

@@ -11,19 +11,25 @@ fetch64-requires c κs = search needs
 enum-known-value : tie.Need-enum-known-value
 enum-known-value c = search needs
 
-enum-told : tie.Need-enum-told
-enum-told c = search needs
-
-returns : tie.Need-returns
-returns c = unwidened _ _ extend-u 16 (rw (c .enum-told .given .1) at (c .before .before .fetch64 .ensures))
-
 v128-widen16x4-u-requires : tie.Need-v128-widen16x4-u-requires
 v128-widen16x4-u-requires c κs = search needs
 
+enum-known-short : tie.Need-enum-known-short
+enum-known-short c = search needs
+
+returns : tie.Need-returns
+returns c = widened _ _ extend-u 16 (rw (c .before .before .value .given .1) at (c .before .before .before .before .fetch64 .ensures)) (c .v128-widen16x4-u .ensures)
+
 returns-2 : tie.Need-returns-2
-returns-2 c = widened _ _ extend-u 16 (rw (c .before .before .value .given .1) at (c .before .before .before .before .fetch64 .ensures)) (c .v128-widen16x4-u .ensures)
+returns-2 c = unwidened _ _ extend-u 16 (rw (c .before .short .given .1) at (c .before .before .before .fetch64 .ensures))
 
 pub widen16x4-u-from-spec : {M : Type 1} → statement M
 widen16x4-u-from-spec =
     tie.close
-    (tie.spec fetch64-requires enum-known-value enum-told returns v128-widen16x4-u-requires returns-2)
+    (tie.spec
+    fetch64-requires
+    enum-known-value
+    v128-widen16x4-u-requires
+    enum-known-short
+    returns
+    returns-2)

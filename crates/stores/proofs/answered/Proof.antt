@@ -7,14 +7,14 @@ use Rattle.stores.proofs.answered.Tie as tie
 enum-told : tie.Need-enum-told
 enum-told c = search needs
 
-enum-told-2 : tie.Need-enum-told-2
-enum-told-2 c = search needs
+enum-known-p : tie.Need-enum-known-p
+enum-known-p c = search needs
 
 returns : tie.Need-returns
 returns c = rw (c .enum-told .given .1) (λ after. refl)
 
 returns-2 : tie.Need-returns-2
-returns-2 c = rw (c .enum-told2 .given .1) (λ after. refl)
+returns-2 c = rw (c .before .p .given .1) (λ after. refl)
 
 pub answered-spec : {M : Type 1} → statement M
-answered-spec = tie.close (tie.spec enum-told enum-told-2 returns returns-2)
+answered-spec = tie.close (tie.spec enum-told enum-known-p returns returns-2)
