@@ -2,7 +2,8 @@
 numbers.
 
 It shares nothing with the crates. A vector is the number of its 128 bits; N is the width of a lane, as in the standard. What stands in quotation
-marks is document 01, or document 02 where an order is named. `python3 compare/calculator.py < LIST` writes what the program `lanes` has to write for the list.
+marks is document 01, or document 02 where an order is named. `python3 compare/calculator.py < LIST` writes what the program `lanes` has to write for the
+list, and with a place and a limit as arguments what the program `lease` has to write.
 
 The list of instruction numbers is the file that the variable OPCODES names (default: standard/opcodes.tsv in ../shared beside the repository, or in
 the folder that SHARED names).
@@ -72,10 +73,12 @@ START = State((0,) * 16, (0,) * 16, "i32", 0)
 
 class Ending(NamedTuple):
     state: State
-    # "The count is the number of steps before the refused one, or all."
+    # "The count is the number of steps before the refused one, or all." "the smaller of the limit and the steps before a refusal or the end" (order 12)
     done: int
-    # Every refusal that holds for the refused step, the one that is given first; none where no step is refused.
+    # Every refusal that holds for the list or for the refused step, the one that is given first; none where neither is refused.
     refusals: list
+    # Where it is paused, "counted from the list's start" (order 12), or None.
+    paused: int = None
 
 
 def read_instructions():
@@ -322,20 +325,55 @@ def after(instruction, step, number, state):
     return state._replace(registers=tuple(registers), writers=tuple(writers))
 
 
-def run(instructions, data):
-    """What a list ends in."""
-    # 1: "list length not a multiple of 32, or above 8,192"; "0 steps, state as given"
-    if len(data) % 32 or len(data) > 8192:
-        return Ending(START, 0, [1])
-    state = START
-    for done, fields in enumerate(LAYOUT.iter_unpack(data)):
-        step = Step(*fields)
-        found = instructions.get(step.operation)
-        refused = refusals(found, step, state.kind)
+def list_refusals(data, place, limit):
+    """The refusals that hold for a list, the one that is given first: "17 limit above 256, tested before 1; 19 [..] tested after 1" (order 12)."""
+    held = {
+        17: limit > 256,
+        # "list length not a multiple of 32, or above 8,192"
+        1: len(data) % 32 != 0 or len(data) > 8192,
+        # "a place to take up from that is above the list's number of steps"
+        19: place > len(data) // 32,
+    }
+    return [number for number, holds in held.items() if holds]
+
+
+def run(instructions, data, place=0, limit=256, state=START):
+    """What a list leaves that is taken up at a place under a limit (order 12)."""
+    refused = list_refusals(data, place, limit)
+    if refused:
+        # "0 steps, state as given"; "with either, nothing done"
+        return Ending(state, 0, refused)
+    if place == 0:
+        # "A run resets all of them to 0 as it starts" (order 1); "taking up above place 0 does not reset them" (order 12)
+        state = state._replace(writers=(0,) * 16)
+    steps = [Step(*fields) for fields in LAYOUT.iter_unpack(data)]
+    for at in range(place, len(steps)):
+        if at - place == limit:
+            return Ending(state, at - place, [], at)
+        found = instructions.get(steps[at].operation)
+        refused = refusals(found, steps[at], state.kind)
         if refused:
-            return Ending(state, done, refused)
-        state = after(found, step, done + 1, state)
-    return Ending(state, len(data) // 32, [])
+            return Ending(state, at - place, refused)
+        state = after(found, steps[at], at + 1, state)
+    # "a list with no step left has ended"
+    return Ending(state, len(steps) - place, [])
+
+
+def leased(instructions, data, place, limit):
+    """What the program `lease` writes: a line for each call, then the listing with the counts added up."""
+    written, done, state = "", 0, START
+    while True:
+        ending = run(instructions, data, place, limit, state)
+        done += ending.done
+        state = ending.state
+        if ending.refusals:
+            how = "refused %d" % ending.refusals[0]
+        else:
+            how = "ended" if ending.paused is None else "paused %d" % ending.paused
+        written += "steps %d %s\n" % (ending.done, how)
+        if ending.paused is None or limit == 0:
+            return written + listing(ending._replace(done=done))
+        place = ending.paused
 
 
 def listing(ending):
@@ -354,4 +392,6 @@ def listing(ending):
 
 
 if __name__ == "__main__":
-    sys.stdout.write(listing(run(read_instructions(), sys.stdin.buffer.read())))
+    numbers = [int(argument) for argument in sys.argv[1:]]
+    written = leased(read_instructions(), sys.stdin.buffer.read(), *numbers) if numbers else listing(run(read_instructions(), sys.stdin.buffer.read()))
+    sys.stdout.write(written)

@@ -3,4 +3,5 @@ pub mod Examples
 pub mod Marks
 pub mod Performed
 pub mod Runs
+pub mod Turns
 pub mod Words

@@ -1,13 +1,13 @@
--- Promise 3, "The choice is never seen": two lists that differ in marks alone end alike. Assumes nothing.
+-- Promise 3, "The choice is never seen": runs of two lists that differ in marks alone, from any place under any limit, end alike. Assumes nothing.
 use mathlib.Core.Path.{_≡_, refl, _∙_, ap, sym}
 use mathlib.Core.List.{List, _∷_, _++_}
-use Prim.Native.Nat.{ℕ, zero, suc, _+_, _/_, _%_, _<_, _≤_}
+use Prim.Native.Nat.{ℕ, zero, suc, _+_, _-_, _*_, _/_, _%_, _<_, _≤_}
 use native.Mathlib.Omega.{arith}
 use lib.ListN.{length, getD, take, drop, length-drop}
 use lib.Seq.{getD-take, getD-drop}
 use Rattle.standard.specs.Refusal.{Answer, given, refused}
 use Rattle.standard.specs.Instruction.{Instruction, none, memory, const, shuffled, vector₁, vector₂, vector₃, shifted, tested, splatted, extracted, replaced, instruction}
-use Rattle.rules.specs.Definition.{Machine, Ending, reset, bytes, operation, profile, refusal, effect, answer, step, after, steps, run}
+use Rattle.rules.specs.Definition.{Machine, Ending, counting, taken-up, bytes, operation, profile, refusal, effect, answer, step, after, steps, run}
 use Rattle.calculator.specs.State.{machine}
 use Rattle.calculator.specs.Run.{ending-of}
 use Rattle.calculator.specs.declared.run.Ending as code
@@ -60,28 +60,30 @@ step-alike place m a b apart =
     (same-bytes (take 32 a) (take 32 b) 8 24 (λ i l u. at i (omega arith) (λ z. omega arith))) in
     same-step place m (take 32 a) ∙ ap (step place m) e ∙ sym (same-step place m (take 32 b))
 
-rest-alike : (a b : List ℕ) → MarksApart a b → MarksApart (drop 32 a) (drop 32 b)
-rest-alike a b apart =
+rest-alike : (a b : List ℕ) (k : ℕ) → MarksApart a b → MarksApart (drop (32 * k) a) (drop (32 * k) b)
+rest-alike a b k apart =
     record {
       long = simp length-drop (omega (arith, apart .long));
-      same = λ i n. rw (getD-drop, getD-drop) (apart .same (32 + i) (λ e. n (omega arith)));
+      same = λ i n. rw (getD-drop, getD-drop) (apart .same (32 * k + i) (λ e. n (omega arith)));
     }
 
 next-alike : (x : Answer Machine) (f g : Machine → Ending) (stop : ℕ → Ending) → ((n : Machine) → f n ≡ g n) → after x f stop ≡ after x g stop
 next-alike (given n) f g stop h = h n
 next-alike (refused k) f g stop h = refl
 
-steps-alike : (left : ℕ) (a b : List ℕ) → MarksApart a b → (m : Machine) (done : ℕ) → steps left a m done ≡ steps left b m done
+steps-alike : (left limit place : ℕ) (a b : List ℕ) → MarksApart a b → (m : Machine) → steps left limit place a m ≡ steps left limit place b m
 unfolding steps
-steps-alike zero a b apart m done = refl
-steps-alike (suc left) a b apart m done =
-    rw (step-alike done m a b apart)
-    (next-alike (step done m (take 32 b)) _ _ _ (λ n. steps-alike left (drop 32 a) (drop 32 b) (rest-alike a b apart) n (suc done)))
+steps-alike zero limit place a b apart m = refl
+steps-alike (suc left) zero place a b apart m = refl
+steps-alike (suc left) (suc limit) place a b apart m =
+    rw (step-alike place m a b apart)
+    (next-alike (step place m (take 32 b)) _ _ _ (λ n. ap (counting 1) (steps-alike left limit (suc place) (drop 32 a) (drop 32 b) (rest-alike a b 1 apart) n)))
 
-pub marks-unseen : (a b : List ℕ) → MarksApart a b → (m : Machine) → run a m ≡ run b m
+pub marks-unseen : (a b : List ℕ) → MarksApart a b → (place limit : ℕ) (m : Machine) → run a place limit m ≡ run b place limit m
 unfolding run
-marks-unseen a b apart m = rw (apart .long, steps-alike (length b / 32) a b apart (reset m) 0)
+marks-unseen a b apart place limit m =
+    rw (apart .long, steps-alike (length b / 32 - place) limit place (drop (32 * place) a) (drop (32 * place) b) (rest-alike a b place apart) (taken-up place m))
 
--- the code's runs of the two lists, whose promises these are
-pub runs-alike : (a b : List ℕ) → MarksApart a b → (state : State) (r q : code.Ending) → ending-of r ≡ run a (machine state) → ending-of q ≡ run b (machine state) → ending-of r ≡ ending-of q
-runs-alike a b apart state r q h k = h ∙ marks-unseen a b apart (machine state) ∙ sym k
+-- the code's runs of the two lists, whose promises these are; the program `lanes` runs from place 0 under limit 256
+pub runs-alike : (a b : List ℕ) → MarksApart a b → (place limit : ℕ) (state : State) (r q : code.Ending) → ending-of r ≡ run a place limit (machine state) → ending-of q ≡ run b place limit (machine state) → ending-of r ≡ ending-of q
+runs-alike a b apart place limit state r q h k = h ∙ marks-unseen a b apart place limit (machine state) ∙ sym k

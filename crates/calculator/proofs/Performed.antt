@@ -2,7 +2,7 @@
 use mathlib.Core.Path.{_≡_, refl, ap, sym, _∙_}
 use mathlib.Core.Bool.{Bool, true, false, cond}
 use mathlib.Core.List.{List, [], _∷_}
-use Prim.Native.Nat.{ℕ, suc, _%_, _≤_}
+use Prim.Native.Nat.{ℕ, _%_, _≤_}
 use native.Mathlib.Omega.{arith}
 use lib.Dec.{ltb, leb, eqb}
 use types.Run.{OneOf, miss}
@@ -10,9 +10,10 @@ use denote.Enum.Declared.{tagOf}
 use borrow.Author.Tests.{leb-true, ne-eqb}
 use Rattle.standard.specs.Instruction.{Kind, Instruction, none, memory, const, shuffled, vector₁, vector₂, vector₃, shifted, tested, splatted, extracted, replaced, instruction}
 use Rattle.standard.specs.Refusal.{legal, given, refused}
-use Rattle.rules.specs.Definition.{Machine, Profile, profile, unless, all-registers, used, lane, indices, right-kind, refusal, effect, operation, step}
+use Rattle.rules.specs.Definition.{Machine, Profile, profile, all-registers, used, lane, indices, right-kind, refusal, effect, operation, step}
 use Rattle.rules.specs.Shape.{shape, profile-of}
 use Rattle.rules.specs.declared.shape.Shape.{Shape}
+use Rattle.rules.proofs.Judged.{one}
 use Rattle.rules.proofs.Shapes.{profile-kept}
 use Rattle.rules.proofs.shape.Shape.{the-type}
 use Rattle.operation.specs.Scalar.{scalar-of}
@@ -25,10 +26,6 @@ record Passed (p : Profile) (k : Kind) (s : List ℕ) : Type 0 where
   lanes : ltb (lane s) (p .lane-count) ≡ true
   legal-indices : cond (p .shuffles) (legal (indices s)) true ≡ true
   kind : right-kind (p .reads) k ≡ true
-
-one : (ok : Bool) (n later : ℕ) → unless ok (suc n) later ≡ 0 → (ok ≡ true) × (later ≡ 0)
-one true n later h = (refl, h)
-one false n later h = absurd (let z : _≡_ {A = ℕ} (suc n) 0 = h in omega arith)
 
 passed : (p : Profile) (k : Kind) (s : List ℕ) → refusal p k s ≡ 0 → Passed p k s
 unfolding refusal

@@ -1,28 +1,37 @@
-// A run: at most 256 steps of 32 bytes each, one after the other, until one is refused.
+// A run: steps of 32 bytes each, one after the other, from a place of the list on and no more of them than the limit, until one is refused.
 ghost use mathlib.Core.Path.{_≡_};
-ghost use Prim.Native.Nat.{_/_, _≤_};
-ghost use lib.ListN.{length};
+ghost use Prim.Native.Nat.{_+_, _-_, _*_, _/_, _<_, _≤_};
+ghost use lib.ListN.{length, drop};
 ghost use Rattle.rules.specs.Definition;
 ghost use Rattle.calculator.specs.State.{machine, held};
-ghost use Rattle.calculator.specs.Run.{ends, ending-of};
+ghost use Rattle.calculator.specs.Run.{outcome-of, ends, ending-of};
 use crate::registers::of_words;
 use crate::registers::words;
 use crate::state::State;
 use crate::step::step;
 use operation::scalar::Scalar;
+use rules::lease;
 
-// What a run ends in: the state, the steps done, and the number of the refusal that ended it, 0 for none.
+// How a run stops (document 02, order 12).
+pub enum Outcome {
+    // "a list with no step left has ended"
+    Ended,
+    // "Stopped at the limit with steps left": where, "counted from the list's start"
+    Paused(usize),
+    // the number of the refusal
+    Refused(u8),
+}
+
+// What a run leaves: the state, the steps done, and how it stopped.
 pub struct Ending {
     pub state: State,
     pub done: usize,
-    pub refused: u8,
+    pub outcome: Outcome,
 }
 
-// Refusal 1: "list length not a multiple of 32, or above 8,192".
-pub const LENGTH: u8 = 1;
-
-fn ended(w: [u64; 32], writers: [u16; 16], scalar: Scalar, done: usize, refused: u8) -> Ending
-    ensures { λ r. ⌜ ending-of r ≡ ends (held w writers scalar) done refused ⌝ }
+// What a run leaves, by its words.
+fn left(w: [u64; 32], writers: [u16; 16], scalar: Scalar, done: usize, outcome: Outcome) -> Ending
+    ensures { λ r. ⌜ ending-of r ≡ ends (held w writers scalar) done (outcome-of outcome) ⌝ }
 {
     let registers = of_words(w);
     Ending {
@@ -32,46 +41,60 @@ fn ended(w: [u64; 32], writers: [u16; 16], scalar: Scalar, done: usize, refused:
             scalar,
         },
         done,
-        refused,
+        outcome,
     }
 }
 
+// Where a run of a list of n steps stops if no step is refused.
+fn stop(n: usize, place: usize, limit: usize) -> usize
+    requires { ⌜ place ≤ n ⌝ }
+    ensures { λ r. ⌜ (r ≤ n) × (r ≤ place + limit) × (r < n → r ≡ place + limit) × (place ≤ r) ⌝ }
+{
+    if limit < n - place { place + limit } else { n }
+}
+
 // The steps of a list of whole steps.
-fn steps(state: State, list: &[u8]) -> Ending
+fn steps(state: State, list: &[u8], place: usize, limit: usize) -> Ending
     requires { ⌜ length (now list) ≤ 8192 ⌝ }
-    ensures { λ r. ⌜ ending-of r ≡ Definition.steps (length (now (list .entry)) / 32) (now (list .entry)) (machine state) 0 ⌝ }
+    requires { ⌜ place ≤ length (now list) / 32 ⌝ }
+    ensures { λ r. ⌜ ending-of r ≡ Definition.steps (length (now (list .entry)) / 32 - place) limit place (drop (32 * place) (now (list .entry))) (machine state) ⌝ }
 {
     let n = list.len() / 32;
+    let end = stop(n, place, limit);
     let all = state.registers;
     let mut w = words(all);
     let mut writers = state.writers;
     let mut scalar = state.scalar;
-    let mut done = 0;
-    while done < n {
-        let at = 32 * done;
-        let end = at + 32;
-        let stepped = step(&mut w, &mut writers, scalar, done as u8, &list[at..end]);
+    let mut at = place;
+    while at < end {
+        let from = 32 * at;
+        let to = from + 32;
+        let stepped = step(&mut w, &mut writers, scalar, at as u8, &list[from..to]);
         let refused = stepped.refused;
         scalar = stepped.scalar;
         if refused != 0 {
-            return ended(w, writers, scalar, done, refused);
+            return left(w, writers, scalar, at - place, Outcome::Refused(refused));
         }
-        done += 1;
+        at += 1;
     }
-    ended(w, writers, scalar, done, 0)
+    if end < n {
+        left(w, writers, scalar, at - place, Outcome::Paused(end))
+    } else {
+        left(w, writers, scalar, at - place, Outcome::Ended)
+    }
 }
 
-pub fn run(state: State, list: &[u8]) -> Ending
-    ensures { λ r. ⌜ ending-of r ≡ Definition.run (now (list .entry)) (machine state) ⌝ }
+pub fn run(state: State, list: &[u8], place: usize, limit: usize) -> Ending
+    ensures { λ r. ⌜ ending-of r ≡ Definition.run (now (list .entry)) place limit (machine state) ⌝ }
 {
-    if list.len() % 32 == 0 {
-        if list.len() <= 8192 {
-            return steps(state.reset(), list);
+    let refused = lease::judge(list.len(), place, limit);
+    if refused == 0 {
+        steps(state.taken_up(place), list, place, limit)
+    } else {
+        Ending {
+            state,
+            done: 0,
+            outcome: Outcome::Refused(refused),
         }
-    }
-    Ending {
-        state,
-        done: 0,
-        refused: LENGTH,
     }
 }

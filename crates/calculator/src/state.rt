@@ -1,6 +1,6 @@
 // The calculator's state by value.
 ghost use mathlib.Core.Path.{_≡_};
-ghost use Rattle.rules.specs.Definition.{start, reset};
+ghost use Rattle.rules.specs.Definition.{start, reset, taken-up};
 ghost use Rattle.rules.specs.Shape.{the-kind};
 ghost use Rattle.operation.specs.Scalar.{kind-of};
 ghost use Rattle.calculator.specs.State.{machine};
@@ -27,7 +27,7 @@ impl State {
         }
     }
 
-    // "A run resets all of them to 0 as it starts" (document 02, order 1).
+    // No number beside a register.
     pub fn reset(self) -> State
         ensures { λ r. ⌜ machine r ≡ reset (machine self) ⌝ }
     {
@@ -39,6 +39,13 @@ impl State {
             writers,
             scalar,
         }
+    }
+
+    // "A run resets all of them to 0 as it starts" (document 02, order 1); "taking up above place 0 does not reset them" (order 12).
+    pub fn taken_up(self, place: usize) -> State
+        ensures { λ r. ⌜ machine r ≡ taken-up place (machine self) ⌝ }
+    {
+        if place == 0 { self.reset() } else { self }
     }
 }
 

@@ -1,8 +1,6 @@
 // The program `lanes` (document 01): "reads a step list from standard input, starts from zero registers and scalar i32 0, and writes" what the run
-// leaves.
-mod listing;
-mod text;
-
+// leaves: one from place 0 under limit 256 (document 02, order 12).
+use calculator::run::Outcome;
 use calculator::run::run;
 use calculator::state::State;
 use libc::STDERR_FILENO;
@@ -23,8 +21,11 @@ fn main() {
         return;
     }
     let n = reading.bytes;
-    let ending = run(State::zero(), &list[..n]);
-    if !listing::write(ending) {
-        os::fail(b"standard output");
-    }
+    let ending = run(State::zero(), &list[..n], 0, 256);
+    let outcome = ending.outcome;
+    let refused = match outcome {
+        Outcome::Refused(number) => number,
+        _ => 0,
+    };
+    listing::write(ending.state, ending.done, refused);
 }

@@ -1,7 +1,5 @@
 // The program `marker` (document 02, order 5): finds the marker of its first argument, within the tolerance of its second and with frames of as many bits as its
 // third says, in the bytes of standard input.
-mod arguments;
-
 ghost use Prim.Native.Nat.{ℕ};
 ghost use mathlib.Core.Path.{_≡_};
 ghost use mathlib.Core.Bool.{true};
@@ -60,7 +58,7 @@ fn decimal_at(i: usize) -> Numeral {
 fn marker_at(i: usize) -> Numeral {
     let mut text = [0u8; 8];
     let n = os::arg(i, &mut text);
-    arguments::marker(&text[..n])
+    arguments::eight_hex_digits(&text[..n])
 }
 
 fn read_arguments() -> Asked {

@@ -19,6 +19,11 @@ turn s i h =
     let e : 32 - i ≡ suc (32 - (i + 1)) = omega arith in
     rw (e, add-one)
 
+-- a test that passes, and what it says of the later ones
+pub one : (ok : Bool) (n later : ℕ) → unless ok (suc n) later ≡ 0 → (ok ≡ true) × (later ≡ 0)
+one true n later h = (refl, h)
+one false n later h = absurd (let z : _≡_ {A = ℕ} (suc n) 0 = h in omega arith)
+
 -- registers one after the other, then what the later tests say
 abbrev pub through : List ℕ → ℕ → ℕ
 through [] later = later

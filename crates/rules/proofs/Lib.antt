@@ -1,3 +1,4 @@
 pub mod Gathered
 pub mod Judged
+pub mod Pauses
 pub mod Shapes

@@ -1,6 +1,6 @@
 -- The calculator (document 01, "The calculator (added)", and document 02's orders): a step and a run, for every list of bytes and every start, over
 -- the standard's table. In plain numbers: it knows nothing of marks, halves or code.
-use Prim.Native.Nat.{ℕ, zero, suc, _+_, _/_, _%_}
+use Prim.Native.Nat.{ℕ, zero, suc, _+_, _-_, _*_, _/_, _%_}
 use mathlib.Core.Bool.{Bool, true, false, cond}
 use mathlib.Core.List.{List, [], _∷_, _++_}
 use lib.ListN.{length, getD, set, take, drop, replicate}
@@ -22,7 +22,7 @@ pub record Machine : Type 0 where
 abbrev pub start : Machine
 start = record { registers = replicate 16 0; writers = replicate 16 0; kind = i32; bits = 0 }
 
--- "A run resets all of them to 0 as it starts" (order 1).
+-- the state with no number
 abbrev pub reset : Machine → Machine
 reset m = record { registers = m .registers; writers = replicate 16 0; kind = m .kind; bits = m .bits }
 
@@ -160,29 +160,58 @@ unfolding refusal effect
 step place m s =
     answer (refusal (profile (instruction (operation s))) (m .kind) s) (effect (instruction (operation s)) place m s)
 
--- What a run ends in. "The count is the number of steps before the refused one, or all."
+-- How a run stops (order 12): "a list with no step left has ended"; "stopped at the limit with steps left, it answers "paused" and where, counted from the
+-- list's start"; or by the refusal of a step or of the list.
+pub data Outcome : Type 0 where
+  ended : Outcome
+  paused : ℕ → Outcome
+  stopped : ℕ → Outcome
+
+-- What a run leaves. "The count is the number of steps before the refused one, or all"; it "reports the steps done" (order 12).
 pub record Ending : Type 0 where
   pub machine : Machine
   pub done : ℕ
-  pub number : ℕ
+  pub outcome : Outcome
+
+abbrev pub nothing-done : Machine → Outcome → Ending
+nothing-done m o = record { machine = m; done = 0; outcome = o }
+
+-- with so many steps done before
+abbrev pub counting : ℕ → Ending → Ending
+counting n e = record { machine = e .machine; done = n + e .done; outcome = e .outcome }
 
 -- A refused step leaves the "state after the steps before".
 abbrev pub after : Answer Machine → (Machine → Ending) → (ℕ → Ending) → Ending
 after (given m) go stop = go m
 after (refused n) go stop = stop n
 
--- The steps of 32 bytes each that are left, after `done` steps before them.
-unfoldable pub steps : ℕ → List ℕ → Machine → ℕ → Ending
-steps zero list m done = record { machine = m; done = done; number = 0 }
-steps (suc left) list m done =
-    after (step done m (take 32 list)) (λ next. steps left (drop 32 list) next (suc done))
-    (λ n. record { machine = m; done = done; number = n })
+-- The steps of 32 bytes each that are left, from a place of the list on and no more of them than the limit. "If the next step would have been refused, that
+-- shows only when it is taken up again."
+unfoldable pub steps : ℕ → ℕ → ℕ → List ℕ → Machine → Ending
+steps zero limit place list m = nothing-done m ended
+steps (suc left) zero place list m = nothing-done m (paused place)
+steps (suc left) (suc limit) place list m =
+    after (step place m (take 32 list)) (λ next. counting 1 (steps left limit (suc place) (drop 32 list) next))
+    (λ n. nothing-done m (stopped n))
 
--- 1: "list length not a multiple of 32, or above 8,192": "0 steps, state as given".
-abbrev pub whole-steps : List ℕ → Bool
-whole-steps list = cond (eqb (length list % 32) 0) (leb (length list) 8192) false
+-- The refusals of a list by its number of bytes; 0 for none. 17: "limit above 256, tested before 1"; 1: "list length not a multiple of 32, or above 8,192";
+-- 19: "a place to take up from that is above the list's number of steps, tested after 1".
+abbrev pub whole-steps : ℕ → Bool
+whole-steps n = cond (eqb (n % 32) 0) (leb n 8192) false
 
--- The writers are reset "before [the] first step is judged", and "a list refused with 1 leaves them as they were" (order 1).
-unfoldable pub run : List ℕ → Machine → Ending
-run list m =
-    cond (whole-steps list) (steps (length list / 32) list (reset m) 0) (record { machine = m; done = 0; number = 1 })
+abbrev pub list-refusal : ℕ → ℕ → ℕ → ℕ
+list-refusal n place limit =
+    unless (leb limit 256) 17
+    (unless (whole-steps n) 1
+    (unless (leb place (n / 32)) 19 0))
+
+-- "A run resets all of them to 0 as it starts, before its first step is judged" (order 1); "taking up above place 0 does not reset them" (order 12).
+abbrev pub taken-up : ℕ → Machine → Machine
+taken-up place m = cond (eqb place 0) (reset m) m
+
+-- A run of a list from a place under a limit. A refused list leaves all as it was: "with either, nothing done"; "0 steps, state as given".
+unfoldable pub run : List ℕ → ℕ → ℕ → Machine → Ending
+run list place limit m =
+    cond (eqb (list-refusal (length list) place limit) 0)
+    (steps (length list / 32 - place) limit place (drop (32 * place) list) (taken-up place m))
+    (nothing-done m (stopped (list-refusal (length list) place limit)))

@@ -1,7 +1,7 @@
 -- `calculator::run::steps` meets its contract: what is left of the run from the state that is left is the run. Assumes nothing.
 use denote.Ref.{now}
 use mathlib.Core.Path.{_≡_, sym, _∙_}
-use Prim.Native.Nat.{_+_, _/_, _*_, _-_, _≤_}
+use Prim.Native.Nat.{_+_, _/_, _*_, _-_, _<_, _≤_}
 use native.Mathlib.Omega.{arith}
 use lib.ListN.{length, take, drop}
 use borrow.Author.Tests.{ne-eqb}
@@ -9,70 +9,78 @@ use Rattle.standard.specs.Refusal.{given, refused}
 use Rattle.rules.specs.Definition.{step, steps}
 use Rattle.rules.proofs.Shapes.{nothing}
 use Rattle.calculator.specs.State.{held}
-use Rattle.calculator.proofs.Runs.{turn, stop}
+use Rattle.calculator.proofs.Runs.{rest, starts, turn, stop, ends-here, pauses-here}
 use Rattle.calculator.proofs.run.steps.Statement.{statement}
 use Rattle.calculator.proofs.run.steps.Tie as tie
 
 abbrev Inv-loop : tie.InvT-loop
-Inv-loop list n w₀ writers₀ scalar₀ done₀ w writers scalar done =
-    (done ≤ n) × (steps (n - done) (drop (32 * done) list) (held w writers scalar) done ≡ steps n list (held w₀ writers₀ scalar₀) 0)
+Inv-loop list place limit n end w₀ writers₀ scalar₀ at₀ w writers scalar at =
+    (place ≤ at) × (at ≤ end) × (rest n place limit list at (held w writers scalar) ≡ steps (n - place) limit place (drop (32 * place) list) (held w₀ writers₀ scalar₀))
 
 abbrev μ-loop : tie.MeasureT-loop
-μ-loop list n w₀ writers₀ scalar₀ done₀ w writers scalar done = n - done
+μ-loop list place limit n end w₀ writers₀ scalar₀ at₀ w writers scalar at = end - at
 
 loop-holds : tie.Need-loop-holds Inv-loop μ-loop
 loop-holds c =
-    let n = length (now (c .before .before .before .before .args .list)) / 32 in
-    let e : n - 0 ≡ n = omega arith in
-    (omega arith, rw e)
-
-sub-step : tie.Need-sub-step Inv-loop μ-loop
-sub-step c = omega arith
-
-part-step-start : tie.Need-part-step-start Inv-loop μ-loop
-part-step-start c = omega arith
-
-part-step-end : tie.Need-part-step-end Inv-loop μ-loop
-part-step-end c = omega arith
+    let a = c .before .before .before .before .before .args in
+    (omega arith, c .before .before .before .stop .ensures .3, starts (length (now (a .list)) / 32) (a .place) (a .limit) (now (a .list)) _)
 
 returns : tie.Need-returns Inv-loop μ-loop
 returns c =
     let k = c .before .before in
     let l = k .before .before .before .before .before .loop in
-    let start = k .before .before .before .before .before .before .before .before .before .before in
-    let list = now (start .args .list) in
+    let a = k .before .before .before .before .before .before .before .before .before .before .before .args in
+    let list = now (a .list) in
     let n = length list / 32 in
     let t = c .before .if1 .taken in
-    let part : 32 * l .done + 32 - 32 * l .done ≡ 32 = omega arith in
-    let e : step (l .done) (held (l .w) (l .writers) (l .scalar)) (take 32 (drop (32 * l .done) list)) ≡ refused (k .step .result .refused) = (rw (part, ne-eqb _ _ t) at (sym (k .step .ensures .0))) in
+    let more : l .at < n = omega (arith, k .before .before .before .before .before .before .before .before .before .stop .ensures .0) in
+    let allowed : l .at < a .place + a .limit = omega (arith, k .before .before .before .before .before .before .before .before .before .stop .ensures .1) in
+    let part : 32 * l .at + 32 - 32 * l .at ≡ 32 = omega arith in
+    let e : step (l .at) (held (l .w) (l .writers) (l .scalar)) (take 32 (drop (32 * l .at) list)) ≡ refused (k .step .result .refused) = (rw (part, ne-eqb _ _ t) at (sym (k .step .ensures .0))) in
     let left = k .step .ensures .1 t in
-    c .ended .ensures ∙ rw (left .0, left .1, left .2)
-    (sym (stop n (l .done) list (held (l .w) (l .writers) (l .scalar)) (k .before .before .before .before .loop-test .taken) _ e) ∙ l .inv .1 ∙ rw (k .before .before .before .before .before .before .before .words .ensures))
+    c .left .ensures ∙ rw (left .0, left .1, left .2)
+    (sym (stop n (a .place) (a .limit) (l .at) list (held (l .w) (l .writers) (l .scalar)) (l .inv .0) more allowed _ e) ∙ l .inv .2 ∙ rw (k .before .before .before .before .before .before .before .words .ensures))
 
 loop-again : tie.Need-loop-again Inv-loop μ-loop
 loop-again c =
     let k = c .before in
     let l = k .before .before .before .before .before .loop in
-    let start = k .before .before .before .before .before .before .before .before .before .before in
-    let list = now (start .args .list) in
+    let a = k .before .before .before .before .before .before .before .before .before .before .before .args in
+    let list = now (a .list) in
     let n = length list / 32 in
-    let part : 32 * l .done + 32 - 32 * l .done ≡ 32 = omega arith in
-    let e : step (l .done) (held (l .w) (l .writers) (l .scalar)) (take 32 (drop (32 * l .done) list)) ≡ given (held (k .step .last .0) (k .step .last .1 .0) (k .step .result .scalar)) =
+    let more : l .at < n = omega (arith, k .before .before .before .before .before .before .before .before .before .stop .ensures .0) in
+    let allowed : l .at < a .place + a .limit = omega (arith, k .before .before .before .before .before .before .before .before .before .stop .ensures .1) in
+    let part : 32 * l .at + 32 - 32 * l .at ≡ 32 = omega arith in
+    let e : step (l .at) (held (l .w) (l .writers) (l .scalar)) (take 32 (drop (32 * l .at) list)) ≡ given (held (k .step .last .0) (k .step .last .1 .0) (k .step .result .scalar)) =
     (rw (part, c .if1 .left) at (sym (k .step .ensures .0))) in
-    (omega arith, sym (turn n (l .done) list (held (l .w) (l .writers) (l .scalar)) (k .before .before .before .before .loop-test .taken) _ e) ∙ l .inv .1)
+    (omega arith, omega arith, sym (turn n (a .place) (a .limit) (l .at) list (held (l .w) (l .writers) (l .scalar)) (l .inv .0) more allowed _ e) ∙ l .inv .2)
 
 returns-2 : tie.Need-returns-2 Inv-loop μ-loop
-unfolding steps
 returns-2 c =
-    let l = c .before .before .loop in
-    let list = now (c .before .before .before .before .before .before .before .args .list) in
+    let l = c .before .before .before .loop in
+    let s = c .before .before .before .before .before .before .before .stop in
+    let a = c .before .before .before .before .before .before .before .before .before .args in
+    let list = now (a .list) in
     let n = length list / 32 in
-    let e : n - l .done ≡ 0 = omega arith in
-    c .ended2 .ensures ∙ (rw e at (l .inv .1)) ∙ rw (c .before .before .before .before .words .ensures)
+    let q : s .result ≡ l .at = omega arith in
+    let more : l .at < n = omega (arith, c .before .if2 .taken) in
+    let met : l .at ≡ a .place + a .limit = omega (arith, s .ensures .2 (c .before .if2 .taken)) in
+    c .left2 .ensures ∙ rw q
+    (sym (pauses-here n (a .place) (a .limit) (l .at) list (held (l .w) (l .writers) (l .scalar)) (l .inv .0) more met) ∙ l .inv .2 ∙ rw (c .before .before .before .before .before .words .ensures))
+
+returns-3 : tie.Need-returns-3 Inv-loop μ-loop
+returns-3 c =
+    let l = c .before .before .before .loop in
+    let a = c .before .before .before .before .before .before .before .before .before .args in
+    let list = now (a .list) in
+    let n = length list / 32 in
+    let none : n ≤ l .at = omega (arith, c .before .if2 .left) in
+    c .left3 .ensures
+    ∙ sym (ends-here n (a .place) (a .limit) (l .at) list (held (l .w) (l .writers) (l .scalar)) (l .inv .0) none) ∙ l .inv .2 ∙ rw (c .before .before .before .before .before .words .ensures)
 
 pub steps-spec : {M : Type 1} → statement M
 steps-spec =
     tie.close
     (tie.spec
-    Inv-loop μ-loop nothing loop-holds (λ c. omega arith) (λ c. omega arith) (λ c. omega arith) sub-step part-step-start part-step-end nothing nothing returns
-    (λ c. omega arith) (λ c. omega arith) loop-again nothing returns-2)
+    Inv-loop μ-loop (λ c κs. omega arith) nothing loop-holds (λ c. omega arith) (λ c. omega arith) (λ c. omega arith) (λ c. omega arith) (λ c. omega arith) (λ c. omega arith) nothing (λ c. omega arith) nothing returns
+    (λ c. omega arith) (λ c. omega arith) loop-again (λ c. omega arith) nothing (λ c. omega arith) nothing returns-2 returns-3)
