@@ -4,6 +4,7 @@ pub mod Digits
 pub mod Halves
 pub mod Loop
 pub mod Match
+pub mod Nan
 pub mod Numbers
 pub mod Pairs
 pub mod Rearrange

@@ -1,15 +1,24 @@
 -- Float lanes, on bit patterns, through the toolchain's account of IEEE 754 (lib.Ieee): the standard, 4.3.3 "Floating-Point Operations".
 use Prim.Native.Nat.{ℕ, _+_, _-_, _%_}
-use mathlib.Core.Bool.{cond}
-use lib.Dec.{ltb}
+use mathlib.Core.Bool.{Bool, true, false, cond, _&&_, _||_}
+use lib.IntN.{ℤ}
+use lib.Dec.{ltb, leb}
 use lib.Ieee
-use lib.Ieee.{Format, binary32, binary64, ofBits, top}
+use lib.Ieee.{Format, binary32, binary64, nan, ofBits, toBits, nanBits, top}
 use Rattle.standard.specs.Integer.{truth}
 
 -- The width of a format's pattern.
 abbrev pub width : Format → ℕ
 width binary32 = 32
 width binary64 = 64
+
+-- The pattern of a whole number, rounded once to the nearest value of the format, a tie to the even one; and the whole number that a pattern is, cut
+-- toward zero and held to as many bits as the pattern has.
+abbrev pub whole : Format → ℤ → ℕ
+whole f z = toBits f (Ieee.ofInt f z)
+
+abbrev pub read-back : Format → ℕ → ℤ
+read-back f a = Ieee.toSigned (width f - 1) (ofBits f a)
 
 -- feq, fne, flt, fgt, fle, fge: −0 equals +0, and with a NaN only "not equal" is true.
 abbrev pub feq : Format → ℕ → ℕ → ℕ
@@ -43,3 +52,28 @@ fpmin f a b = cond (Ieee.lt (ofBits f b) (ofBits f a)) b a
 
 abbrev pub fpmax : Format → ℕ → ℕ → ℕ
 fpmax f a b = cond (Ieee.lt (ofBits f a) (ofBits f b)) b a
+
+-- fadd, fsub, fmul, fdiv: the exact result, rounded once to the nearest value of the format, a tie to the even one. Every NaN result is the positive
+-- quiet one (document 02, order 4): the operations know one NaN, and that is the pattern which `toBits` writes for it.
+abbrev pub fadd : Format → ℕ → ℕ → ℕ
+fadd f a b = toBits f (Ieee.add f (ofBits f a) (ofBits f b))
+
+abbrev pub fsub : Format → ℕ → ℕ → ℕ
+fsub f a b = toBits f (Ieee.sub f (ofBits f a) (ofBits f b))
+
+abbrev pub fmul : Format → ℕ → ℕ → ℕ
+fmul f a b = toBits f (Ieee.mul f (ofBits f a) (ofBits f b))
+
+abbrev pub fdiv : Format → ℕ → ℕ → ℕ
+fdiv f a b = toBits f (Ieee.div f (ofBits f a) (ofBits f b))
+
+-- Whether a is below b, −0 counted below +0. Equal numbers have one pattern, but for the zeros: there the sign of a decides.
+abbrev pub under : Format → ℕ → ℕ → Bool
+under f a b = Ieee.lt (ofBits f a) (ofBits f b) || (Ieee.eq (ofBits f a) (ofBits f b) && leb (top f) a)
+
+-- fmin, fmax: a NaN where either is one, else the lower and the higher of the two.
+abbrev pub fmin : Format → ℕ → ℕ → ℕ
+fmin f a b = cond (nanBits f a || nanBits f b) (toBits f nan) (cond (under f a b) a b)
+
+abbrev pub fmax : Format → ℕ → ℕ → ℕ
+fmax f a b = cond (nanBits f a || nanBits f b) (toBits f nan) (cond (under f a b) b a)
