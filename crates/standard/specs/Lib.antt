@@ -4,6 +4,7 @@
 pub mod Lanes
 pub mod Integer
 pub mod Float
+pub mod Convert
 pub mod Vector
 pub mod Memory
 pub mod Instruction

@@ -1,0 +1,9 @@
+pub mod Examples
+pub mod Rounding
+pub mod Fields
+pub mod Significand
+pub mod Chosen
+pub mod ToWhole
+pub mod Numbers
+pub mod Formats
+pub mod Saturation
