@@ -3,13 +3,13 @@
 use mathlib.Core.Path.{_≡_, refl, sym, ap, _∙_}
 use mathlib.Core.Bool.{Bool, true, false, not, cond, _&&_}
 use Prim.Native.Nat.{ℕ, suc, _+_, _-_, _*_, _^_, _≤_, _<_}
-use native.Mathlib.Nat.{le-trans, le-of-eq, lt-of-le-of-lt, zero-lt-suc, mul-one, mul-comm, mul-assoc, mul-right-comm, add-mul, mul-sub, mul-pos, mul-lt-mul-of-pos-right, mul-le-mul-right, pow-succ'}
+use native.Mathlib.Nat.{le-trans, le-of-eq, lt-of-le-of-lt, zero-lt-suc, mul-one, mul-comm, mul-assoc, mul-right-comm, add-mul, mul-sub, mul-pos, mul-lt-mul-of-pos-right, mul-le-mul-right}
 use native.Mathlib.Omega.{arith}
 use lib.IntN.{ℤ, pos, negsuc, natAbs, subℕ, _+ℤ_}
 use lib.Dec.{T, ltb, lt→ltb, ltb→lt, nltb→le, le→leb, lit<, lit≤}
 use lib.Arith.{le→nltb}
 use lib.Pow.{pow-lt}
-use lib.Ieee.{Float, nan, inf, fin, Format, binary32, binary64, prec, hid, up, down, round, add, sum, ofInt, ofBits, toBits, toSigned, inFloat}
+use lib.Ieee.{Float, nan, inf, fin, Format, binary32, binary64, prec, hid, up, down, round, add, sum, ofInt, toBits, toSigned, inFloat}
 use lib.Ieee.Fits.{down-pos, ofInt-fits}
 use lib.Ieee.Bits.{ofBits-toBits, is-true, is-false}
 use lib.Ieee.Exact.{HasValue}

@@ -1,19 +1,19 @@
 -- A pattern of one format in the other: demote by the field x of its exponent, and promote, where nothing is lost. Assumes nothing.
-use mathlib.Core.Path.{_≡_, refl, sym, ap, _∙_, subst}
+use mathlib.Core.Path.{_≡_, sym, ap, _∙_}
 use mathlib.Core.Bool.{Bool, true, false, cond}
 use mathlib.Core.Logic.{_⊎_, inl, inr}
 use Prim.Native.Nat.{ℕ, zero, suc, _+_, _-_, _*_, _/_, _%_, _^_, _≤_, _<_, min, compare}
-use native.Mathlib.Nat.{le-trans, le-of-eq, lt-of-lt-of-le, lt-of-le-of-lt, mul-one, mul-assoc, mul-le-mul-right, add-mul, add-assoc, add-comm, add-zero, zero-add, le-div-iff-mul-le, eq-or-lt-of-le, suc-ne-zero}
+use native.Mathlib.Nat.{le-trans, le-of-eq, lt-of-lt-of-le, lt-of-le-of-lt, mul-one, mul-le-mul-right, add-zero, zero-add, le-div-iff-mul-le, eq-or-lt-of-le, suc-ne-zero}
 use native.Mathlib.Omega.{arith}
 use lib.Dec.{ltb, leb, lit≤, lit<}
 use lib.Arith.{le→nltb}
 use lib.Pow.{pow-pos, pow-mono, shl-lt, shr-lt}
-use lib.Ieee.{Float, nan, inf, Format, binary32, binary64, low, round, hid, ones, top, ofBits, toBits}
+use lib.Ieee.{nan, Format, binary32, binary64, low, round, hid, ones, top, ofBits, toBits}
 use lib.Ieee.Bits.{is-false}
 use lib.Ieee.Nearest.{closest, nearest-ge}
 use Rattle.standard.specs.Convert.{from, demote, promote}
 use Rattle.float_conversion.proofs.Rounding.{signed-round}
-use Rattle.float_conversion.proofs.Fields.{field, field-le, digits, magnitude, value, lead, digits-lt, led, infinite, not-a-number, magnitude-is, two-fields}
+use Rattle.float_conversion.proofs.Fields.{field, field-le, digits, magnitude, value, lead, digits-lt, led, infinite, not-a-number, magnitude-is}
 use Rattle.float_conversion.proofs.Significand.{from-value, closest-le, normal, subnormal}
 use Rattle.float_conversion.proofs.Chosen.{chosen-whole, chosen-below}
 use Rattle.float_conversion.proofs.Numbers.{least, moved}

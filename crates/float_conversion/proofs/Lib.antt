@@ -1,9 +1,9 @@
-pub mod Examples
-pub mod Rounding
-pub mod Fields
-pub mod Significand
 pub mod Chosen
-pub mod ToWhole
-pub mod Numbers
+pub mod Examples
+pub mod Fields
 pub mod Formats
+pub mod Numbers
+pub mod Rounding
 pub mod Saturation
+pub mod Significand
+pub mod ToWhole

@@ -4,15 +4,15 @@ use mathlib.Core.Path.{_≡_, refl, sym, ap, _∙_, subst}
 use mathlib.Core.Logic.{_⊎_, inl, inr}
 use mathlib.Core.Bool.{Bool, true, false, not, cond}
 use Prim.Native.Nat.{ℕ, zero, suc, _+_, _-_, _*_, _/_, _%_, _^_, _≤_, _<_, min, compare}
-use native.Mathlib.Nat.{le-trans, le-of-eq, le-of-lt, lt-of-lt-of-le, lt-of-le-of-lt, lt-of-not-le, lt-irrefl, le-antisymm, zero-add, zero-lt-suc, mul-one, one-mul, mul-comm, mul-assoc, add-assoc, mul-pos, mul-le-mul-right, mul-div-cancel, div-one, div-div-eq-div-mul, le-div-iff-mul-le, le-of-mul-le-mul-right, eq-or-lt-of-le, pow-succ'}
+use native.Mathlib.Nat.{le-trans, le-of-eq, le-of-lt, lt-of-lt-of-le, lt-of-le-of-lt, lt-of-not-le, lt-irrefl, le-antisymm, zero-add, zero-lt-suc, mul-one, one-mul, add-assoc, mul-le-mul-right, mul-div-cancel, div-one, div-div-eq-div-mul, le-div-iff-mul-le, le-of-mul-le-mul-right, eq-or-lt-of-le}
 use native.Mathlib.Omega.{arith}
 use lib.Dec.{T, ltb, ltb→lt, nltb→le, lit<}
 use lib.Pow.{pow-add, pow-pos, pow-mono, pow-lt, shl-lt}
-use lib.Ieee.{Float, nan, inf, fin, Format, binary32, binary64, prec, emax, low, up, down, size, odd, units, round, hid, ones, top, toBits}
+use lib.Ieee.{Float, nan, inf, fin, Format, binary32, binary64, prec, emax, low, down, size, odd, units, round, hid, ones, top, toBits}
 use lib.Ieee.Digits.{size-lt, size-le, size-reaches}
 use lib.Ieee.Fits.{two, reach, two-le-pos, down-pos, kept-lt, nearest-le, round-is}
 use lib.Ieee.Exact.{HasValue, odd-sign}
-use lib.Ieee.Nearest.{closest, nearest-ge}
+use lib.Ieee.Nearest.{nearest-ge}
 use lib.Ieee.Order.{drop, kept}
 
 -- ---- the pattern of a value that is a whole number of the format's smallest values

@@ -3,13 +3,13 @@
 use mathlib.Core.Path.{_≡_, refl, sym, ap, ap₂, _∙_, subst}
 use mathlib.Core.Logic.{_⊎_, inl, inr}
 use mathlib.Core.Bool.{Bool, true, false, not, cond, _&&_}
-use Prim.Native.Nat.{ℕ, zero, suc, _+_, _-_, _*_, _/_, _%_, _^_, _≤_, _<_, zero-le, compare, Ordering, Ordering·lt, Ordering·eq, Ordering·gt}
-use native.Mathlib.Nat.{le-refl, le-trans, le-of-eq, le-of-lt, lt-of-lt-of-le, lt-of-le-of-lt, lt-irrefl, zero-lt-suc, le-add-right, lt-of-mul-lt-mul-right, mul-lt-mul-of-pos-right, mul-pos, mod-lt, mul-one, one-mul, zero-mul, mul-comm, mul-assoc, mul-right-comm, mul-le-mul-right, add-mul, add-comm, add-assoc, eq-or-lt-of-le, pow-succ', div-eq-of-lt, mod-eq-of-lt, le-div-iff-mul-le, div-lt-iff-lt-mul, mul-add-div-right, mul-add-mod-self-right, mul-mod-right}
+use Prim.Native.Nat.{ℕ, zero, suc, _+_, _-_, _*_, _/_, _%_, _^_, _≤_, _<_, zero-le}
+use native.Mathlib.Nat.{le-refl, le-trans, le-of-eq, le-of-lt, lt-of-lt-of-le, lt-of-le-of-lt, lt-irrefl, zero-lt-suc, le-add-right, lt-of-mul-lt-mul-right, mul-lt-mul-of-pos-right, mul-pos, mod-lt, mul-one, one-mul, zero-mul, mul-comm, mul-assoc, mul-right-comm, mul-le-mul-right, add-mul, add-comm, add-assoc, eq-or-lt-of-le, pow-succ', le-div-iff-mul-le, div-lt-iff-lt-mul, mul-add-div-right, mul-mod-right}
 use native.Mathlib.Omega.{arith}
 use lib.Dec.{T, ltb, leb, eqb, lt→ltb, ltb→lt, nltb→le, leb→le, nleb→lt}
 use lib.Arith.{le→nltb}
 use lib.Pow.{pow-add, pow-pos, pow-mono, pow-lt, shl-lt}
-use lib.Ieee.{Float, nan, inf, fin, Format, binary32, binary64, prec, emax, low, up, down, nearest, round, hid, ones, top, odd, ofFields, ofBits, toBits, isNan}
+use lib.Ieee.{Float, nan, inf, fin, Format, binary32, binary64, prec, emax, low, up, down, round, hid, ones, top, odd, ofFields, ofBits, toBits, isNan}
 use lib.Ieee.Fits.{two, reach, down-pos}
 use lib.Ieee.Bits.{is-false, toBits-ofBits}
 use lib.Ieee.Exact.{HasValue, round-exact}

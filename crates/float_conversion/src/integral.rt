@@ -34,7 +34,7 @@ fn integral32(bits: u32, even: bool, away: bool) -> u32
             + pick32(rises32(even, away, bits), 0x3F80_0000, 0);
     }
     let j = 150 - field;
-    ((bits + lift32(even, away, bits, j)) >> j) << j
+    ((bits + (lift(even, away, bits as u64, j as u64) as u32)) >> j) << j
 }
 
 pub fn ftrunc32(bits: u32) -> u32
@@ -88,7 +88,7 @@ fn integral64(bits: u64, even: bool, away: bool) -> u64
             + pick64(rises64(even, away, bits), 0x3FF0_0000_0000_0000, 0);
     }
     let j = 1075 - field;
-    ((bits + lift64(even, away, bits, j)) >> j) << j
+    ((bits + lift(even, away, bits, j)) >> j) << j
 }
 
 pub fn ftrunc64(bits: u64) -> u64

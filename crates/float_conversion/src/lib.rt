@@ -30,22 +30,7 @@ fn pick64(t: bool, a: u64, b: u64) -> u64
 }
 
 // What is added before the last j digits are cut off: to the even neighbour, away from zero or toward it.
-fn lift32(even: bool, away: bool, bits: u32, j: u32) -> u32
-    requires { ⌜ 0 < j ⌝ }
-    requires { ⌜ j < 32 ⌝ }
-    ensures { λ r. ⌜ r ≡ lift even away (bits / 2 ^ j) (2 ^ j) ⌝ }
-{
-    let one: u32 = 1 << j;
-    if even {
-        one / 2 - 1 + (bits >> j) % 2
-    } else if away {
-        one - 1
-    } else {
-        0
-    }
-}
-
-fn lift64(even: bool, away: bool, bits: u64, j: u64) -> u64
+fn lift(even: bool, away: bool, bits: u64, j: u64) -> u64
     requires { ⌜ 0 < j ⌝ }
     requires { ⌜ j < 64 ⌝ }
     ensures { λ r. ⌜ r ≡ lift even away (bits / 2 ^ j) (2 ^ j) ⌝ }
@@ -67,7 +52,7 @@ fn nearest_shift(n: u64, k: u64) -> u64
     requires { ⌜ n < 0x8000_0000_0000_0000 ⌝ }
     ensures { λ r. ⌜ r ≡ closest n (2 ^ k) ⌝ }
 {
-    (n + lift64(true, false, n, k)) >> k
+    (n + lift(true, false, n, k)) >> k
 }
 
 // n / 2^l, which an f64 holds exactly.

@@ -8,20 +8,23 @@ ghost use Rattle.standard.specs.Integer.{modulo};
 ghost use Rattle.standard.specs.Convert.{trunc-sat-u, trunc-sat-s};
 use crate::*;
 
+// "If z is a NaN, then return 0."
+const OF_NAN: u32 = 0;
+
 // The whole part of the magnitude.
 fn part32(bits: u32) -> u32
     ensures { λ r. ⌜ r ≡ trunc-sat-u binary32 (bits % 2 ^ 31) ⌝ }
 {
     let size = bits % 0x8000_0000;
     if 0x7F80_0000 < size {
-        return 0;
+        return OF_NAN;
     }
     let field = size / 0x80_0000;
     if field < 127 {
         return 0;
     }
     if 158 < field {
-        return 0xFFFF_FFFF;
+        return u32::MAX;
     }
     let digits = (bits % 0x80_0000 + 0x80_0000) as u64;
     ((digits << 32) >> (182 - field)) as u32
@@ -32,14 +35,14 @@ fn part64(bits: u64) -> u32
 {
     let size = bits % 0x8000_0000_0000_0000;
     if 0x7FF0_0000_0000_0000 < size {
-        return 0;
+        return OF_NAN;
     }
     let field = size / 0x10_0000_0000_0000;
     if field < 1023 {
         return 0;
     }
     if 1054 < field {
-        return 0xFFFF_FFFF;
+        return u32::MAX;
     }
     let digits = bits % 0x10_0000_0000_0000 + 0x10_0000_0000_0000;
     (digits >> (1075 - field)) as u32
@@ -53,7 +56,7 @@ fn held(negative: bool, size: u32) -> u32
         if size == 0 {
             0
         } else {
-            0xFFFF_FFFF - pick32(size < 0x8000_0000, size, 0x8000_0000) + 1
+            u32::MAX - pick32(size < 0x8000_0000, size, 0x8000_0000) + 1
         }
     } else {
         pick32(size < 0x8000_0000, size, 0x7FFF_FFFF)

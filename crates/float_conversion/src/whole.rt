@@ -26,11 +26,7 @@ pub fn convert_u64(n: u32) -> u64
 fn magnitude(n: u32) -> u32
     ensures { λ r. ⌜ r ≡ natAbs (signed 32 n) ⌝ }
 {
-    if n < 0x8000_0000 {
-        n
-    } else {
-        0xFFFF_FFFF - n + 1
-    }
+    if n < 0x8000_0000 { n } else { u32::MAX - n + 1 }
 }
 
 pub fn convert_s32(n: u32) -> u32

@@ -1,5 +1,5 @@
 -- `float_conversion::nearest_shift` meets its contract. Assumes nothing.
-use mathlib.Core.Path.{_≡_, sym, ap, _∙_}
+use mathlib.Core.Path.{sym, ap, _∙_}
 use Prim.Native.Nat.{ℕ, _+_, _/_, _^_, _≤_, _<_}
 use native.Mathlib.Nat.{le-trans, le-of-eq, le-of-suc-le-suc}
 use native.Mathlib.Omega.{arith}
@@ -13,18 +13,18 @@ use Rattle.float_conversion.proofs.nearest_shift.Tie as tie
 room : (n l : ℕ) → n < 9223372036854775808 → l ≤ 9223372036854775808 → n + l < 18446744073709551616
 room n l h k = omega arith
 
-lift64-requires : tie.Need-lift64-requires
-lift64-requires c κs = search needs
+lift-requires : tie.Need-lift-requires
+lift-requires c κs = search needs
 
 add-result : tie.Need-add-result
 add-result c =
-    record { fits = room (c .before .args .n) (c .lift64 .result) (c .before .pre .1 .1) (le-trans (le-of-eq (c .lift64 .ensures)) (le-trans (lift-le true false (c .before .args .n / 2 ^ c .before .args .k) (c .before .args .k)) (pow-mono (le-of-suc-le-suc (c .before .pre .1 .0))))) }
+    record { fits = room (c .before .args .n) (c .lift .result) (c .before .pre .1 .1) (le-trans (le-of-eq (c .lift .ensures)) (le-trans (lift-le true false (c .before .args .n / 2 ^ c .before .args .k) (c .before .args .k)) (pow-mono (le-of-suc-le-suc (c .before .pre .1 .0))))) }
 
 shr-result : tie.Need-shr-result
 shr-result c = search needs
 
 returns : tie.Need-returns
-returns c = ap (λ (l : ℕ). (c .before .args .n + l) / 2 ^ c .before .args .k) (c .lift64 .ensures) ∙ sym (lifted true false (c .before .args .n) (c .before .args .k) (c .before .pre .0))
+returns c = ap (λ (l : ℕ). (c .before .args .n + l) / 2 ^ c .before .args .k) (c .lift .ensures) ∙ sym (lifted true false (c .before .args .n) (c .before .args .k) (c .before .pre .0))
 
 pub nearest-shift-spec : {M : Type 1} → statement M
-nearest-shift-spec = tie.close (tie.spec lift64-requires add-result shr-result returns)
+nearest-shift-spec = tie.close (tie.spec lift-requires add-result shr-result returns)

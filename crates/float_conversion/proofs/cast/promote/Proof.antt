@@ -1,7 +1,7 @@
 -- `float_conversion::cast::promote` meets its contract. Assumes nothing.
 use mathlib.Core.Path.{_≡_, ap, ap₂, _∙_}
 use mathlib.Core.Bool.{Bool, cond}
-use Prim.Native.Nat.{ℕ, _+_, _*_, _%_, _^_, _≤_, _<_}
+use Prim.Native.Nat.{ℕ, _+_, _*_, _%_, _≤_, _<_}
 use native.Mathlib.Nat.{le-trans, le-of-eq, le-refl, lt-of-le-of-lt}
 use native.Mathlib.Omega.{arith}
 use lib.Dec.{leb}
@@ -26,7 +26,7 @@ quotient-requires : tie.Need-quotient-requires
 quotient-requires c κs = search needs
 
 add-result : tie.Need-add-result
-add-result c = record { fits = fits (leb 2147483648 (c .before .before .before .before .args .bits)) (c .before .before .pick64 .ensures) (le-trans (le-of-eq (c .quotient .ensures)) (magnitude-le binary64 (c .before .before .before .before .args .bits % 8388608) (2 ^ 149))) }
+add-result c = record { fits = fits (leb 2147483648 (c .before .before .before .before .args .bits)) (c .before .before .pick64 .ensures) (le-trans (le-of-eq (c .quotient .ensures)) (magnitude-le binary64 _ _)) }
 
 returns-2 : tie.Need-returns-2
 returns-2 c = ap₂ _+_ (c .before .before .pick64 .ensures) (c .quotient .ensures) ∙ no-field (c .before .before .before .before .args .bits) (c .before .if2 .taken)

@@ -1,10 +1,10 @@
 -- `float_conversion::integral::integral32` meets its contract. Assumes nothing.
-use mathlib.Core.Path.{_≡_, ap, ap₂, _∙_}
+use mathlib.Core.Path.{ap, ap₂, _∙_}
 use mathlib.Core.Bool.{Bool, true, false, cond}
 use Prim.Native.Nat.{ℕ, _+_, _-_, _*_, _/_, _%_, _^_, _≤_, _<_}
 use native.Mathlib.Nat.{le-trans, le-of-eq, lt-of-le-of-lt, mod-eq-of-lt, div-mul-le-self}
 use native.Mathlib.Omega.{arith}
-use lib.Dec.{leb}
+use lib.Dec.{leb, lit<}
 use lib.Pow.{pow-mono}
 use lib.Ieee.{binary32, toBits}
 use Rattle.float_conversion.proofs.Chosen.{lift-le}
@@ -46,8 +46,11 @@ returns-3 c =
 sub-j : tie.Need-sub-j
 sub-j c = search needs
 
-lift32-requires : tie.Need-lift32-requires
-lift32-requires c κs = search needs
+cast-lift : tie.Need-cast-lift
+cast-lift c = search needs
+
+lift-requires : tie.Need-lift-requires
+lift-requires c κs = search needs
 
 -- a field that is not the highest leaves room for the addend
 room : (b l : ℕ) → b < 4294967296 → b % 2147483648 / 8388608 ≤ 149 → l ≤ 8388608 → b + l < 4294967296
@@ -56,16 +59,21 @@ room b l B h k = omega arith
 places : (x : ℕ) → 127 ≤ x → 150 - x ≤ 23
 places x h = omega arith
 
-abbrev entry : tie.After-lift32 → tie.Start
+abbrev entry : tie.After-lift → tie.Start
 entry c = c .before .before .before .before
 
-abbrev j : tie.After-lift32 → ℕ
+abbrev j : tie.After-lift → ℕ
 j c = 150 - entry c .args .bits % 2147483648 / 8388608
 
-sum-fits : (c : tie.After-lift32) → entry c .args .bits + c .lift32 .result < 4294967296
-sum-fits c =
-    room (entry c .args .bits) (c .lift32 .result) (entry c .fits .bits .fits) (c .before .before .if2 .left)
-    (le-trans (le-of-eq (c .lift32 .ensures)) (le-trans (lift-le (entry c .args .even) (entry c .args .away) (entry c .args .bits / 2 ^ j c) (j c)) (pow-mono (places _ (c .before .if3 .left)))))
+lift-small : (c : tie.After-lift) → c .lift .result ≤ 8388608
+lift-small c =
+    le-trans (le-of-eq (c .lift .ensures)) (le-trans (lift-le (entry c .args .even) (entry c .args .away) (entry c .args .bits / 2 ^ j c) (j c)) (pow-mono (places _ (c .before .if3 .left))))
+
+cast-result : tie.Need-cast-result
+cast-result c = record { fits = lt-of-le-of-lt (lift-small c) (lit< tt) }
+
+sum-fits : (c : tie.After-lift) → entry c .args .bits + c .lift .result < 4294967296
+sum-fits c = room (entry c .args .bits) (c .lift .result) (entry c .fits .bits .fits) (c .before .before .if2 .left) (lift-small c)
 
 add-result-2 : tie.Need-add-result-2
 add-result-2 c = record { fits = sum-fits c }
@@ -78,8 +86,8 @@ shl-result c = search needs
 
 returns-4 : tie.Need-returns-4
 returns-4 c =
-    mod-eq-of-lt (lt-of-le-of-lt (div-mul-le-self (entry c .args .bits + c .lift32 .result) (2 ^ j c)) (sum-fits c))
-    ∙ ap (λ (l : ℕ). (entry c .args .bits + l) / 2 ^ j c * 2 ^ j c) (c .lift32 .ensures)
+    mod-eq-of-lt (lt-of-le-of-lt (div-mul-le-self (entry c .args .bits + c .lift .result) (2 ^ j c)) (sum-fits c))
+    ∙ ap (λ (l : ℕ). (entry c .args .bits + l) / 2 ^ j c * 2 ^ j c) (c .lift .ensures)
     ∙ between (entry c .args .even) (entry c .args .away) binary32 (entry c .args .bits) (entry c .fits .bits .fits) (c .before .if3 .left) (c .before .before .if2 .left)
 
 pub integral32-spec : {M : Type 1} → statement M
@@ -94,7 +102,9 @@ integral32-spec =
     add-result
     returns-3
     sub-j
-    lift32-requires
+    cast-lift
+    lift-requires
+    cast-result
     add-result-2
     shr-result
     shl-result

@@ -1,5 +1,5 @@
 -- `float_conversion::integral::integral64` meets its contract. Assumes nothing.
-use mathlib.Core.Path.{_≡_, ap, ap₂, _∙_}
+use mathlib.Core.Path.{ap, ap₂, _∙_}
 use mathlib.Core.Bool.{Bool, true, false, cond}
 use Prim.Native.Nat.{ℕ, _+_, _-_, _*_, _/_, _%_, _^_, _≤_, _<_}
 use native.Mathlib.Nat.{le-trans, le-of-eq, lt-of-le-of-lt, mod-eq-of-lt, div-mul-le-self}
@@ -46,8 +46,8 @@ returns-3 c =
 sub-j : tie.Need-sub-j
 sub-j c = search needs
 
-lift64-requires : tie.Need-lift64-requires
-lift64-requires c κs = search needs
+lift-requires : tie.Need-lift-requires
+lift-requires c κs = search needs
 
 -- a field that is not the highest leaves room for the addend
 room : (b l : ℕ) → b < 18446744073709551616 → b % 9223372036854775808 / 4503599627370496 ≤ 1074 → l ≤ 4503599627370496 → b + l < 18446744073709551616
@@ -56,16 +56,16 @@ room b l B h k = omega arith
 places : (x : ℕ) → 1023 ≤ x → 1075 - x ≤ 52
 places x h = omega arith
 
-abbrev entry : tie.After-lift64 → tie.Start
+abbrev entry : tie.After-lift → tie.Start
 entry c = c .before .before .before .before
 
-abbrev j : tie.After-lift64 → ℕ
+abbrev j : tie.After-lift → ℕ
 j c = 1075 - entry c .args .bits % 9223372036854775808 / 4503599627370496
 
-sum-fits : (c : tie.After-lift64) → entry c .args .bits + c .lift64 .result < 18446744073709551616
+sum-fits : (c : tie.After-lift) → entry c .args .bits + c .lift .result < 18446744073709551616
 sum-fits c =
-    room (entry c .args .bits) (c .lift64 .result) (entry c .fits .bits .fits) (c .before .before .if2 .left)
-    (le-trans (le-of-eq (c .lift64 .ensures)) (le-trans (lift-le (entry c .args .even) (entry c .args .away) (entry c .args .bits / 2 ^ j c) (j c)) (pow-mono (places _ (c .before .if3 .left)))))
+    room (entry c .args .bits) (c .lift .result) (entry c .fits .bits .fits) (c .before .before .if2 .left)
+    (le-trans (le-of-eq (c .lift .ensures)) (le-trans (lift-le (entry c .args .even) (entry c .args .away) (entry c .args .bits / 2 ^ j c) (j c)) (pow-mono (places _ (c .before .if3 .left)))))
 
 add-result-2 : tie.Need-add-result-2
 add-result-2 c = record { fits = sum-fits c }
@@ -78,8 +78,8 @@ shl-result c = search needs
 
 returns-4 : tie.Need-returns-4
 returns-4 c =
-    mod-eq-of-lt (lt-of-le-of-lt (div-mul-le-self (entry c .args .bits + c .lift64 .result) (2 ^ j c)) (sum-fits c))
-    ∙ ap (λ (l : ℕ). (entry c .args .bits + l) / 2 ^ j c * 2 ^ j c) (c .lift64 .ensures)
+    mod-eq-of-lt (lt-of-le-of-lt (div-mul-le-self (entry c .args .bits + c .lift .result) (2 ^ j c)) (sum-fits c))
+    ∙ ap (λ (l : ℕ). (entry c .args .bits + l) / 2 ^ j c * 2 ^ j c) (c .lift .ensures)
     ∙ between (entry c .args .even) (entry c .args .away) binary64 (entry c .args .bits) (entry c .fits .bits .fits) (c .before .if3 .left) (c .before .before .if2 .left)
 
 pub integral64-spec : {M : Type 1} → statement M
@@ -94,7 +94,7 @@ integral64-spec =
     add-result
     returns-3
     sub-j
-    lift64-requires
+    lift-requires
     add-result-2
     shr-result
     shl-result

@@ -1,5 +1,5 @@
 -- `float_conversion::saturate::held` meets its contract. Assumes nothing.
-use mathlib.Core.Path.{_≡_, sym, ap, _∙_}
+use mathlib.Core.Path.{_≡_, _∙_}
 use Prim.Native.Nat.{ℕ, _+_, _-_, _≤_, _<_, _^_, min}
 use native.Mathlib.Omega.{arith}
 use Rattle.float_conversion.proofs.Saturation.{held-low, held-high, negated-lane}

@@ -1,13 +1,13 @@
 -- `float_conversion::saturate::part32` meets its contract. Assumes nothing.
-use mathlib.Core.Path.{_≡_, sym, ap, _∙_}
+use mathlib.Core.Path.{_≡_, ap, _∙_}
 use Prim.Native.Nat.{ℕ, _+_, _-_, _*_, _/_, _%_, _^_, _≤_, _<_}
-use native.Mathlib.Nat.{le-of-eq, le-trans, lt-of-le-of-lt, mul-one}
+use native.Mathlib.Nat.{le-of-eq, le-trans, lt-of-le-of-lt}
 use native.Mathlib.Omega.{arith}
 use lib.Dec.{lit≤}
 use lib.Ieee.{binary32, ofBits}
 use lib.Ieee.Casts.{toUnsigned-lt}
 use Rattle.standard.specs.Convert.{trunc-sat-u}
-use Rattle.float_conversion.proofs.Fields.{field, digits, digits-are}
+use Rattle.float_conversion.proofs.Fields.{field, digits-are}
 use Rattle.float_conversion.proofs.Saturation.{part-of-nan, part-small, part-large, part-middle}
 use borrow.Author.Needs.{needs}
 use Rattle.float_conversion.proofs.saturate.part32.Statement.{statement}

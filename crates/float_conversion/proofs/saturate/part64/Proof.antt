@@ -1,6 +1,6 @@
 -- `float_conversion::saturate::part64` meets its contract. Assumes nothing.
 use mathlib.Core.Path.{_≡_, sym, ap, _∙_}
-use Prim.Native.Nat.{ℕ, _+_, _-_, _*_, _/_, _%_, _^_, _≤_, _<_}
+use Prim.Native.Nat.{ℕ, _+_, _-_, _/_, _%_, _^_, _≤_, _<_}
 use native.Mathlib.Nat.{le-of-eq, le-trans, lt-of-le-of-lt, mul-one}
 use native.Mathlib.Omega.{arith}
 use lib.Dec.{lit≤}

@@ -1,14 +1,12 @@
--- `float_conversion::lift64` meets its contract. Assumes nothing.
-use mathlib.Core.Path.{_≡_, sym, ap, _∙_}
-use mathlib.Core.Bool.{Bool}
-use Prim.Native.Nat.{ℕ, _+_, _-_, _*_, _/_, _%_, _^_, _≤_, _<_}
+-- `float_conversion::lift` meets its contract. Assumes nothing.
+use mathlib.Core.Path.{_≡_, sym, ap}
+use Prim.Native.Nat.{ℕ, _*_, _/_, _%_, _^_, _<_}
 use native.Mathlib.Nat.{le-trans, le-of-eq}
 use lib.Pow.{pow-pos}
 use borrow.Author.Needs.{needs}
-use Rattle.float_conversion.specs.Integral.{lift}
 use Rattle.float_conversion.proofs.Chosen.{one-shifted, half-some}
-use Rattle.float_conversion.proofs.lift64.Statement.{statement}
-use Rattle.float_conversion.proofs.lift64.Tie as tie
+use Rattle.float_conversion.proofs.lift.Statement.{statement}
+use Rattle.float_conversion.proofs.lift.Tie as tie
 
 one-is : (j : ℕ) → j < 64 → 1 * 2 ^ j % 2 ^ 64 ≡ 2 ^ j
 one-is j h = one-shifted 64 j h
@@ -37,5 +35,5 @@ returns-2 c = rw (one-is (c .before .before .args .j) (c .before .before .pre .1
 returns-3 : tie.Need-returns-3
 returns-3 c = search needs
 
-pub lift64-spec : {M : Type 1} → statement M
-lift64-spec = tie.close (tie.spec shl-one sub-result shr-result add-result sub-result-2 returns returns-2 returns-3)
+pub lift-spec : {M : Type 1} → statement M
+lift-spec = tie.close (tie.spec shl-one sub-result shr-result add-result sub-result-2 returns returns-2 returns-3)
