@@ -1,17 +1,9 @@
 -- The definitions at the places where their rules show, computed, at both formats. Assumes nothing.
-use mathlib.Core.Path.{_≡_, refl}
-use mathlib.Core.List.{List, [], _∷_, map}
-use Prim.Native.Nat.{ℕ}
+use mathlib.Core.Path.{refl}
+use mathlib.Core.List.{List, [], _∷_}
 use lib.Ieee.{binary32, binary64, add, sub, mul, div, lt, eq, ofBits, toBits, nanBits}
+use Rattle.standard.proofs.Cases.{Case, _gives_, Hold}
 use Rattle.standard.specs.Float.{fadd, fsub, fmul, fdiv, fmin, fmax}
-
-pub record Case : Type 0 where
-  pub given : ℕ
-  pub expected : ℕ
-
-infix 4 _gives_
-abbrev _gives_ : ℕ → ℕ → Case
-n gives m = record { given = n; expected = m }
 
 abbrev pub cases : List Case
 cases =
@@ -53,6 +45,6 @@ cases =
     ∷ (fmul binary64 1 0x3fe0_0000_0000_0000 gives 0)
     ∷ []
 
-pub examples-hold : map (λ (c : Case). c .given) cases ≡ map (λ (c : Case). c .expected) cases
+pub examples-hold : Hold cases
 unfolding add sub mul div lt eq ofBits toBits nanBits
 examples-hold = refl

@@ -1,17 +1,10 @@
 -- The definitions at the places where their rules show, computed. Assumes nothing.
-use mathlib.Core.Path.{_≡_, refl}
-use mathlib.Core.List.{List, [], _∷_, map}
-use Prim.Native.Nat.{ℕ, _+_, _-_, _^_}
+use mathlib.Core.Path.{refl}
+use mathlib.Core.List.{List, [], _∷_}
+use Prim.Native.Nat.{_+_, _-_, _^_}
 use lib.Ieee.{binary32, binary64, round, ofInt, ofBits, toBits, toUnsigned, toSigned}
+use Rattle.standard.proofs.Cases.{Case, _gives_, Hold}
 use Rattle.standard.specs.Convert.{from, ftrunc, ffloor, fceil, fnearest, demote, promote, convert-u, convert-s, trunc-sat-u, trunc-sat-s}
-
-pub record Case : Type 0 where
-  pub given : ℕ
-  pub expected : ℕ
-
-infix 4 _gives_
-abbrev _gives_ : ℕ → ℕ → Case
-n gives m = record { given = n; expected = m }
 
 abbrev pub cases : List Case
 cases =
@@ -57,6 +50,6 @@ cases =
     ∷ (trunc-sat-u binary64 0xfff0_0000_0000_0001 gives 0)
     ∷ []
 
-pub examples-hold : map (λ (c : Case). c .given) cases ≡ map (λ (c : Case). c .expected) cases
+pub examples-hold : Hold cases
 unfolding from round ofInt ofBits toBits toUnsigned toSigned
 examples-hold = refl
