@@ -1,6 +1,6 @@
 -- Float lanes, on bit patterns, through the toolchain's account of IEEE 754 (lib.Ieee): the standard, 4.3.3 "Floating-Point Operations".
 use Prim.Native.Nat.{ℕ, _+_, _-_, _%_}
-use mathlib.Core.Bool.{Bool, true, false, cond, _&&_, _||_}
+use mathlib.Core.Bool.{Bool, cond, _&&_, _||_}
 use lib.IntN.{ℤ}
 use lib.Dec.{ltb, leb}
 use lib.Ieee
