@@ -44,6 +44,18 @@ in-order p k s h = rw h (all-through (used p s) _)
 pub judged : {shape : Shape} (x : Shape) (k : Kind) (s : List ℕ) {r : ℕ} → shape ≡ x → profile-of x .has-step ≡ true → r ≡ through (used (profile-of x) s) (unless (ltb (lane s) (profile-of x .lane-count)) 4 (unless (cond (profile-of x .shuffles) (legal (indices s)) true) 5 (unless (right-kind (profile-of x .reads) k) 6 0))) → r ≡ refusal (profile-of shape) k s
 judged x k s e h q = rw (e, in-order (profile-of x) k s h) q
 
+-- one test after the other: what the code's test says is the definition's, where what is tested is and what the later ones say is
+tested : (n : ℕ) {r a b : ℕ} {t u : Bool} → r ≡ unless t n a → t ≡ u → a ≡ b → r ≡ unless u n b
+tested n e f g = e ∙ rw (f, g)
+
+pub register : {r x y a b : ℕ} → r ≡ unless (leb x 15) 3 a → x ≡ y → a ≡ b → r ≡ unless (leb y 15) 3 b
+register e f g = tested 3 e (ap (λ (x : ℕ). leb x 15) f) g
+
+pub place : (n : ℕ) {r x y a b : ℕ} → r ≡ unless (ltb x n) 4 a → x ≡ y → a ≡ b → r ≡ unless (ltb y n) 4 b
+place n e f g = tested 4 e (ap (λ (x : ℕ). ltb x n) f) g
+
 -- a lane that is not used is below 256, as every byte is
-pub unused : {x r : ℕ} → r < 256 → r ≡ x → ltb x 256 ≡ true
-unused {x} f e = lt-ltb x 256 (omega arith)
+pub unused : {x y a b : ℕ} → x < 256 → x ≡ y → a ≡ b → a ≡ unless (ltb y 256) 4 b
+unused {x} {y} l f g =
+    let t : ltb y 256 ≡ true = lt-ltb y 256 (omega arith) in
+    rw t g
