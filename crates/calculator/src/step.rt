@@ -10,6 +10,7 @@ ghost use Rattle.calculator.specs.Run.{answer-of};
 use crate::registers::get;
 use crate::registers::put;
 use crate::state::kind;
+use decision::decide;
 use lane::reinterpret::unsigned32;
 use operation::extract::extract;
 use operation::given;
@@ -22,7 +23,6 @@ use rules::fields::indices;
 use rules::fields::operation;
 use rules::judge::judge;
 use rules::shape::Shape;
-use rules::shape::decide;
 use rules::writers::wrote;
 use simd::V128;
 

@@ -1,13 +1,13 @@
--- `rules::shape::decide` meets its contract: each way out at the numbers that lead there. Assumes nothing.
+-- `decision::decide` meets its contract: each way out at the numbers that lead there. Assumes nothing.
 use mathlib.Core.Path.{refl}
 use mathlib.Core.Logic.{⊎-elim}
 use mathlib.Core.List.{List, [], _∷_}
 use Prim.Native.Nat.{ℕ}
 use native.Mathlib.Omega.{arith}
 use Rattle.standard.specs.Instruction.{table, instruction}
-use Rattle.rules.proofs.Shapes.{shapes, inside, onward}
-use Rattle.rules.proofs.shape.decide.Statement.{statement}
-use Rattle.rules.proofs.shape.decide.Tie as tie
+use Rattle.decision.proofs.Table.{shapes, inside, onward}
+use Rattle.decision.proofs.decide.Statement.{statement}
+use Rattle.decision.proofs.decide.Tie as tie
 
 -- the single numbers of the arms, the last arm first
 abbrev singles : List (List ℕ)
