@@ -8,10 +8,10 @@ use lib.Seq.{getD-take, getD-drop}
 use Rattle.standard.specs.Refusal.{Answer, given, refused}
 use Rattle.standard.specs.Instruction.{Instruction, none, memory, const, shuffled, vector₁, vector₂, vector₃, shifted, tested, splatted, extracted, replaced, instruction}
 use Rattle.rules.specs.Definition.{Machine, Ending, counting, taken-up, bytes, operation, profile, refusal, effect, answer, step, after, steps, run}
-use Rattle.calculator.specs.State.{machine}
+use Rattle.state.specs.State.{machine}
 use Rattle.calculator.specs.Run.{ending-of}
 use Rattle.calculator.specs.declared.run.Ending as code
-use Rattle.calculator.specs.declared.state.State.{State}
+use Rattle.state.specs.declared.State.{State}
 
 -- Lists of one length, with the same byte at each place but byte 7 of a step, the mark.
 pub record MarksApart (a b : List ℕ) : Type 0 where

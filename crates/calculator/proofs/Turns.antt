@@ -5,11 +5,11 @@ use Prim.Native.Nat.{ℕ}
 use Rattle.rules.specs.Definition as definition
 use Rattle.rules.specs.Definition.{paused, counting, run}
 use Rattle.rules.proofs.Pauses.{in-turns, Limit, Limits, ends-as-one}
-use Rattle.calculator.specs.State.{machine}
+use Rattle.state.specs.State.{machine}
 use Rattle.calculator.specs.Run.{ending-of}
 use Rattle.calculator.specs.declared.run.Outcome.{Outcome}
 use Rattle.calculator.specs.declared.run.Ending.{Ending}
-use Rattle.calculator.specs.declared.state.State.{State}
+use Rattle.state.specs.declared.State.{State}
 
 abbrev pub WherePaused : Outcome → (ℕ → Type 0) → Type 0
 WherePaused Outcome.Ended at = ⊥

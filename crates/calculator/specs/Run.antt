@@ -1,19 +1,10 @@
--- What the code's step and run stand for in the definition.
+-- What the code's run stands for in the definition.
 use Prim.Native.Nat.{ℕ}
-use mathlib.Core.Bool.{cond}
-use mathlib.Core.List.{List}
-use lib.Dec.{eqb}
-use Rattle.standard.specs.Refusal.{Answer, given, refused}
 use Rattle.rules.specs.Definition as definition
 use Rattle.rules.specs.Definition.{Machine}
-use Rattle.calculator.specs.State.{machine, held}
-use Rattle.calculator.specs.declared.step.Stepped.{Stepped}
+use Rattle.state.specs.State.{machine}
 use Rattle.calculator.specs.declared.run.Outcome.{Outcome}
 use Rattle.calculator.specs.declared.run.Ending.{Ending}
-
--- with the words and the writers that a step leaves
-abbrev pub answer-of : Stepped → List ℕ → List ℕ → Answer Machine
-answer-of r w n = cond (eqb (r .refused) 0) (given (held w n (r .scalar))) (refused (r .refused))
 
 abbrev pub outcome-of : Outcome → definition.Outcome
 outcome-of Outcome.Ended = definition.ended

@@ -1,5 +1,2 @@
 // The calculator of document 01: 16 registers, one scalar, and steps of 32 bytes, each decided, judged and done.
-pub mod registers;
 pub mod run;
-pub mod state;
-pub mod step;

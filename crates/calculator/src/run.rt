@@ -3,14 +3,14 @@ ghost use mathlib.Core.Path.{_≡_};
 ghost use Prim.Native.Nat.{_+_, _-_, _*_, _/_, _<_, _≤_};
 ghost use lib.ListN.{length, drop};
 ghost use Rattle.rules.specs.Definition;
-ghost use Rattle.calculator.specs.State.{machine, held};
+ghost use Rattle.state.specs.State.{machine, held};
 ghost use Rattle.calculator.specs.Run.{outcome-of, ends, ending-of};
-use crate::registers::of_words;
-use crate::registers::words;
-use crate::state::State;
-use crate::step::step;
 use operation::scalar::Scalar;
 use rules::lease;
+use state::State;
+use state::registers::of_words;
+use state::registers::words;
+use step::step;
 
 // How a run stops (document 02, order 12).
 pub enum Outcome {
@@ -45,14 +45,6 @@ fn left(w: [u64; 32], writers: [u16; 16], scalar: Scalar, done: usize, outcome: 
     }
 }
 
-// Where a run of a list of n steps stops if no step is refused.
-fn stop(n: usize, place: usize, limit: usize) -> usize
-    requires { ⌜ place ≤ n ⌝ }
-    ensures { λ r. ⌜ (r ≤ n) × (r ≤ place + limit) × (r < n → r ≡ place + limit) × (place ≤ r) ⌝ }
-{
-    if limit < n - place { place + limit } else { n }
-}
-
 // The steps of a list of whole steps.
 fn steps(state: State, list: &[u8], place: usize, limit: usize) -> Ending
     requires { ⌜ length (now list) ≤ 8192 ⌝ }
@@ -60,7 +52,7 @@ fn steps(state: State, list: &[u8], place: usize, limit: usize) -> Ending
     ensures { λ r. ⌜ ending-of r ≡ Definition.steps (length (now (list .entry)) / 32 - place) limit place (drop (32 * place) (now (list .entry))) (machine state) ⌝ }
 {
     let n = list.len() / 32;
-    let end = stop(n, place, limit);
+    let end = lease::stop(n, place, limit);
     let all = state.registers;
     let mut w = words(all);
     let mut writers = state.writers;

@@ -2,8 +2,8 @@
 // leaves: one from place 0 under limit 256 (document 02, order 12).
 use calculator::run::Outcome;
 use calculator::run::run;
-use calculator::state::State;
 use libc::STDERR_FILENO;
+use state::State;
 
 fn main() {
     if os::arg_count() > 1 {

@@ -7,11 +7,11 @@ use lib.ListN.{length}
 use Rattle.rules.specs.Definition as definition
 use Rattle.rules.specs.Definition.{run}
 use Rattle.rules.proofs.Pauses.{At, moves-on, never-above}
-use Rattle.calculator.specs.State.{machine}
+use Rattle.state.specs.State.{machine}
 use Rattle.calculator.specs.Run.{outcome-of, ending-of}
 use Rattle.calculator.specs.declared.run.Outcome.{Outcome}
 use Rattle.calculator.specs.declared.run.Ending.{Ending}
-use Rattle.calculator.specs.declared.state.State.{State}
+use Rattle.state.specs.declared.State.{State}
 
 module _ (list : List ℕ) (place limit : ℕ) (state : State) (r : Ending) (promise : ending-of r ≡ run list place limit (machine state)) where
   same : run list place limit (machine state) .done ≡ r .done

@@ -4,9 +4,9 @@
 use arguments::Numeral;
 use calculator::run::Outcome;
 use calculator::run::run;
-use calculator::state::State;
 use libc::STDERR_FILENO;
 use libc::STDOUT_FILENO;
+use state::State;
 
 struct Task {
     place: u32,

@@ -1,10 +1,10 @@
 // The listing of document 01: fixed byte strings, written around fields of digits. Each function that is not public says whether all of it was written.
 pub mod text;
 
-use calculator::state::State;
 use libc::STDOUT_FILENO;
 use operation::scalar::Scalar;
 use simd::V128;
+use state::State;
 
 fn put(bytes: &[u8]) -> bool {
     io::write_all(STDOUT_FILENO, bytes)

@@ -8,7 +8,7 @@ use borrow.Author.Tests.{ne-eqb}
 use Rattle.standard.specs.Refusal.{given, refused}
 use Rattle.rules.specs.Definition.{step, steps}
 use Rattle.rules.proofs.Shapes.{nothing}
-use Rattle.calculator.specs.State.{held}
+use Rattle.state.specs.State.{held}
 use Rattle.calculator.proofs.Runs.{rest, starts, turn, stop, ends-here, pauses-here}
 use Rattle.calculator.proofs.run.steps.Statement.{statement}
 use Rattle.calculator.proofs.run.steps.Tie as tie
@@ -23,7 +23,7 @@ abbrev μ-loop : tie.MeasureT-loop
 loop-holds : tie.Need-loop-holds Inv-loop μ-loop
 loop-holds c =
     let a = c .before .before .before .before .before .args in
-    (omega arith, c .before .before .before .stop .ensures .3, starts (length (now (a .list)) / 32) (a .place) (a .limit) (now (a .list)) _)
+    (omega arith, c .before .before .before .stop .ensures .3 (omega arith), starts (length (now (a .list)) / 32) (a .place) (a .limit) (now (a .list)) _)
 
 returns : tie.Need-returns Inv-loop μ-loop
 returns c =
@@ -82,5 +82,5 @@ pub steps-spec : {M : Type 1} → statement M
 steps-spec =
     tie.close
     (tie.spec
-    Inv-loop μ-loop (λ c κs. omega arith) nothing loop-holds (λ c. omega arith) (λ c. omega arith) (λ c. omega arith) (λ c. omega arith) (λ c. omega arith) (λ c. omega arith) nothing (λ c. omega arith) nothing returns
+    Inv-loop μ-loop nothing nothing loop-holds (λ c. omega arith) (λ c. omega arith) (λ c. omega arith) (λ c. omega arith) (λ c. omega arith) (λ c. omega arith) nothing (λ c. omega arith) nothing returns
     (λ c. omega arith) (λ c. omega arith) loop-again (λ c. omega arith) nothing (λ c. omega arith) nothing returns-2 returns-3)

@@ -1,0 +1,56 @@
+-- What the parts of the code do for a step of a shape, whether or not its instruction has that shape and whatever registers it names: between the code and
+-- the definition.
+use Prim.Native.Nat.{ℕ, suc, _%_}
+use mathlib.Core.List.{List}
+use lib.ListN.{getD, set}
+use Rattle.standard.specs.Vector.{shuffle}
+use Rattle.standard.specs.Refusal.{at-indices}
+use Rattle.standard.specs.Instruction.{Kind, Instruction, i32}
+use Rattle.rules.specs.Definition.{Machine, destination, lane, constant, indices, hold}
+use Rattle.rules.specs.declared.shape.Shape.{Shape}
+use Rattle.state.specs.Count.{as-count}
+use Rattle.operation.specs.Family.{given-or, as-unary, as-binary, as-ternary, as-shift, as-test, as-splat, as-extract, as-replace}
+
+-- the vector in the register that the low four bits of a byte name, and a state with a vector there, written by the step at a place
+abbrev pub named : List ℕ → List ℕ → ℕ → ℕ
+named registers s j = getD registers (getD s j 0 % 16) 0
+
+abbrev pub written : ℕ → Machine → List ℕ → ℕ → Machine
+written place m s v =
+    record {
+      registers = set (m .registers) (destination s % 16) v;
+      writers = set (m .writers) (destination s % 16) (suc place);
+      kind = m .kind;
+      bits = m .bits;
+    }
+
+-- of the registers and the scalar's kind and bits
+abbrev pub makes : Shape → Instruction → List ℕ → Kind → ℕ → List ℕ → ℕ
+makes Shape.None i r k b s = named r s 3
+makes Shape.Constant i r k b s = constant s
+makes Shape.Shuffle i r k b s = given-or (named r s 3) (at-indices (indices s) (shuffle (indices s) (named r s 3) (named r s 4)))
+makes Shape.Unary i r k b s = as-unary i (named r s 3)
+makes Shape.Binary i r k b s = as-binary i (named r s 3) (named r s 4)
+makes Shape.Ternary i r k b s = as-ternary i (named r s 3) (named r s 4) (named r s 5)
+makes Shape.Shift i r k b s = as-shift i (as-count k b) (named r s 3)
+makes Shape.Test i r k b s = named r s 3
+makes (Shape.Splat x) i r k b s = as-splat k i b
+makes (Shape.Extract n) i r k b s = named r s 3
+makes (Shape.Replace n x) i r k b s = as-replace k i (named r s 3) (lane s) b
+
+abbrev pub writes : Shape → Instruction → ℕ → Machine → List ℕ → Machine
+writes x i place m s = written place m s (makes x i (m .registers) (m .kind) (m .bits) s)
+
+abbrev pub does : Shape → Instruction → ℕ → Machine → List ℕ → Machine
+does Shape.None i place m s = m
+does Shape.Constant i place m s = writes Shape.Constant i place m s
+does Shape.Shuffle i place m s = writes Shape.Shuffle i place m s
+does Shape.Unary i place m s = writes Shape.Unary i place m s
+does Shape.Binary i place m s = writes Shape.Binary i place m s
+does Shape.Ternary i place m s = writes Shape.Ternary i place m s
+does Shape.Shift i place m s = writes Shape.Shift i place m s
+does Shape.Test i place m s = hold m i32 (as-test i (named (m .registers) s 3))
+does (Shape.Splat x) i place m s = writes (Shape.Splat x) i place m s
+does (Shape.Extract n) i place m s =
+    hold m (as-extract i (named (m .registers) s 3) (lane s) .0) (as-extract i (named (m .registers) s 3) (lane s) .1)
+does (Shape.Replace n x) i place m s = writes (Shape.Replace n x) i place m s
