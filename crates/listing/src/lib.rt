@@ -1,6 +1,4 @@
 // The listing of document 01: fixed byte strings, written around fields of digits. Each function that is not public says whether all of it was written.
-pub mod text;
-
 use libc::STDOUT_FILENO;
 use operation::scalar::Scalar;
 use simd::V128;

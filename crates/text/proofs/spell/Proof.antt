@@ -1,4 +1,4 @@
--- `listing::text::spell` meets its contract: each turn puts the last digit of what is left before the digits that stand there. Assumes nothing.
+-- `text::spell` meets its contract: each turn puts the last digit of what is left before the digits that stand there. Assumes nothing.
 use borrow.Author.Needs.{needs}
 use Prim.Native.Nat.{suc, _≤_, _<_, _-_, _%_}
 use native.Mathlib.Nat.{mod-lt}
@@ -7,9 +7,9 @@ use mathlib.Core.Path.{_≡_}
 use mathlib.Core.List.{_++_}
 use lib.ListN.{length, drop, length-set}
 use Rattle.io.specs.Digits.{digits}
-use Rattle.listing.proofs.Laws.{all-to-come, put-before}
-use Rattle.listing.proofs.text.spell.Statement.{statement}
-use Rattle.listing.proofs.text.spell.Tie as tie
+use Rattle.text.proofs.Laws.{all-to-come, put-before}
+use Rattle.text.proofs.spell.Statement.{statement}
+use Rattle.text.proofs.spell.Tie as tie
 
 abbrev Inv-loop : tie.InvT-loop
 Inv-loop n base out₀ i₀ rest₀ out i rest =

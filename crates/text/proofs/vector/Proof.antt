@@ -1,8 +1,8 @@
--- `listing::text::vector` meets its contract: the bytes of a vector are those of both halves. Assumes nothing.
+-- `text::vector` meets its contract: the bytes of a vector are those of both halves. Assumes nothing.
 use borrow.Author.Needs.{needs}
-use Rattle.listing.proofs.Laws.{both-halves}
-use Rattle.listing.proofs.text.vector.Statement.{statement}
-use Rattle.listing.proofs.text.vector.Tie as tie
+use Rattle.text.proofs.Laws.{both-halves}
+use Rattle.text.proofs.vector.Statement.{statement}
+use Rattle.text.proofs.vector.Tie as tie
 
 slice-aggregate-put-half : tie.Need-slice-aggregate-put-half
 slice-aggregate-put-half c = search needs

@@ -6,7 +6,7 @@ ghost use lib.ListN.{length, take};
 ghost use Rattle.io.specs.Digits.{glyph, digits};
 ghost use Rattle.standard.specs.Lanes;
 ghost use Rattle.simd.specs.Number.{number};
-ghost use Rattle.listing.specs.Text.{two-decimals, hex, hex-bytes};
+ghost use Rattle.text.specs.Text.{two-decimals, hex, hex-bytes};
 use simd::V128;
 
 fn digit(n: u8) -> u8

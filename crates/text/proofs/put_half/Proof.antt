@@ -1,4 +1,4 @@
--- `listing::text::put_half` meets its contract: each turn puts a byte after those that stand there. Assumes nothing.
+-- `text::put_half` meets its contract: each turn puts a byte after those that stand there. Assumes nothing.
 use borrow.Author.Needs.{needs}
 use native.Mathlib.Nat.{add-zero}
 use native.Mathlib.Omega.{arith}
@@ -7,10 +7,10 @@ use mathlib.Core.Path.{_≡_}
 use mathlib.Core.List.{_++_}
 use lib.ListN.{length, take, length-set}
 use Rattle.standard.specs.Lanes
-use Rattle.listing.specs.Text.{hex-bytes}
-use Rattle.listing.proofs.Laws.{put-byte, none-to-come}
-use Rattle.listing.proofs.text.put_half.Statement.{statement}
-use Rattle.listing.proofs.text.put_half.Tie as tie
+use Rattle.text.specs.Text.{hex-bytes}
+use Rattle.text.proofs.Laws.{put-byte, none-to-come}
+use Rattle.text.proofs.put_half.Statement.{statement}
+use Rattle.text.proofs.put_half.Tie as tie
 
 abbrev Inv-loop : tie.InvT-loop
 Inv-loop out₀ at half rest₀ i₀ out rest i =

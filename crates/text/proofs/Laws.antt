@@ -9,7 +9,7 @@ use lib.Seq.{take-suc-set, take-all, drop-cons, drop-set-lt, drop-length, getD-s
 use Rattle.io.specs.Digits.{glyph, digits}
 use Rattle.standard.specs.Lanes
 use Rattle.standard.proofs.Halves.{lanes-halves}
-use Rattle.listing.specs.Text.{hex, hex-bytes}
+use Rattle.text.specs.Text.{hex, hex-bytes}
 
 -- From the last place to the first. At the start nothing stands there.
 pub all-to-come : (text out : List ℕ) → text ++ drop (length out) out ≡ text

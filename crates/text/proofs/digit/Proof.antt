@@ -1,8 +1,8 @@
--- `listing::text::digit` meets its contract, by which side of ten the number stands on. Assumes nothing.
+-- `text::digit` meets its contract, by which side of ten the number stands on. Assumes nothing.
 use borrow.Author.Needs.{needs}
 use borrow.Author.Tests.{lt-ltb, le-ltb}
-use Rattle.listing.proofs.text.digit.Statement.{statement}
-use Rattle.listing.proofs.text.digit.Tie as tie
+use Rattle.text.proofs.digit.Statement.{statement}
+use Rattle.text.proofs.digit.Tie as tie
 
 add-result : tie.Need-add-result
 add-result c = search needs
