@@ -2,6 +2,4 @@
 pub mod arithmetic;
 pub mod compare;
 pub mod reinterpret;
-pub mod saturate;
 pub mod shift;
-pub mod widen;

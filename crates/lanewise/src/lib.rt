@@ -8,9 +8,9 @@ ghost use lib.ListN.{take};
 ghost use Rattle.lanewise.specs.Lanewise.{unaries, unaries8, unaries16, unaries32, binaries, binaries32, unary-of, binary-of};
 use lane::arithmetic::*;
 use lane::compare::*;
-use lane::saturate::*;
 use lane::shift::*;
-use lane::widen::*;
+use wide_lane::saturate::*;
+use wide_lane::widen::*;
 
 pub const NEG: u8 = 0;
 

@@ -5,18 +5,18 @@ ghost use mathlib.Core.List.{map};
 ghost use Rattle.standard.specs.Integer.{extend-u, extend-s, narrow-u, narrow-s};
 ghost use Rattle.standard.specs.Lanes.{joined, lanes, lowHalf, highHalf};
 ghost use Rattle.standard.specs.Vector.{extend, extmul, extadd-pairwise, dot, narrow, widen};
-ghost use Rattle.lane.specs.Widen.{extends, narrows};
+ghost use Rattle.wide_lane.specs.Widen.{extends, narrows};
 ghost use Rattle.simd.specs.Number.{number};
 ghost use Rattle.simd.specs.Select.{half-of};
 use crate::V128;
-use lane::widen::extend8;
-use lane::widen::extend16;
-use lane::widen::extend32;
-use lane::widen::narrow16;
-use lane::widen::narrow32;
 use lanewise::DOT;
 use lanewise::EXTADD_S;
 use lanewise::EXTADD_U;
+use wide_lane::widen::extend8;
+use wide_lane::widen::extend16;
+use wide_lane::widen::extend32;
+use wide_lane::widen::narrow16;
+use wide_lane::widen::narrow32;
 
 impl V128 {
     fn widen8(bits: u64, signed: bool) -> V128
