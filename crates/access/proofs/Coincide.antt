@@ -5,7 +5,7 @@ use mathlib.Core.List.{List}
 use Prim.Native.Nat.{ℕ, _/_, _%_, _^_, _<_}
 use native.Mathlib.Omega.{arith}
 use Rattle.standard.proofs.Digits.{low-digit, rest-digits}
-use Rattle.access.specs.declared.Access.{Access}
+use Rattle.bounds.specs.declared.Access.{Access}
 use Rattle.access.specs.declared.Put.{Put}
 use Rattle.access.specs.declared.Halves.{Halves}
 use Rattle.access.specs.declared.Fetched8.{Fetched8}
@@ -13,8 +13,9 @@ use Rattle.access.specs.declared.Fetched16.{Fetched16}
 use Rattle.access.specs.declared.Fetched32.{Fetched32}
 use Rattle.access.specs.declared.Fetched64.{Fetched64}
 use Rattle.access.specs.declared.Fetched128.{Fetched128}
-use Rattle.access.specs.Access.{access-answer, put-answer, fetched8, fetched16, fetched32, fetched64, fetched128}
-use Rattle.access.proofs.Bounds.{never, same, same-shortfall}
+use Rattle.bounds.specs.Bounds.{access-answer}
+use Rattle.access.specs.Access.{put-answer, fetched8, fetched16, fetched32, fetched64, fetched128}
+use Rattle.bounds.proofs.Bounds.{never, same, same-shortfall}
 
 pub accesses-coincide : (a b : Access) → access-answer a ≡ access-answer b → a ≡ b
 accesses-coincide (Access.At i) (Access.At j) e = ap Access.At (same e)

@@ -8,7 +8,7 @@ use Rattle.standard.specs.Lanes.{splat, extract, replace}
 use Rattle.standard.specs.Refusal.{Answer, given, refused, at-lane}
 use Rattle.standard.specs.Vector.{widen}
 use Rattle.standard.specs.Memory.{answered, past, number-at, load, load-splat, load-widen, load-lane, store, store-lane, Stored, kept, stored}
-use Rattle.access.proofs.Bounds.{onward, handed-on}
+use Rattle.bounds.proofs.Bounds.{onward, handed-on}
 
 module _ (m : List ℕ) (at : ℕ) where
   pub loaded : (n : ℕ) {x v : ℕ} → answered (given x) ≡ load n m at → v ≡ x → answered (given v) ≡ load n m at

@@ -1,25 +1,14 @@
--- What the values of the code stand for. Document 01, "Memory": the effective address is the exact sum of pointer and offset, or the address of an
--- `_at` form. An access that runs past the end is refused with 7, and says how far past (document 02, order 9).
+-- What the answers of the code stand for. An access that runs past the end is refused with 7, and says how far past (document 02, order 9).
 use Prim.Native.Nat.{ℕ, _+_, _*_, _^_}
 use mathlib.Core.List.{List}
 use Rattle.standard.specs.Refusal.{given}
 use Rattle.standard.specs.Memory.{Accessed, answered, past, Stored, written, kept-past}
-use Rattle.access.specs.declared.Effective.{Effective}
-use Rattle.access.specs.declared.Access.{Access}
 use Rattle.access.specs.declared.Put.{Put}
 use Rattle.access.specs.declared.Fetched8.{Fetched8}
 use Rattle.access.specs.declared.Fetched16.{Fetched16}
 use Rattle.access.specs.declared.Fetched32.{Fetched32}
 use Rattle.access.specs.declared.Fetched64.{Fetched64}
 use Rattle.access.specs.declared.Fetched128.{Fetched128}
-
-abbrev pub effective : Effective → ℕ
-effective (Effective.Sum p o) = p + o
-effective (Effective.Address a) = a
-
-abbrev pub access-answer : Access → Accessed ℕ
-access-answer (Access.At i) = answered (given i)
-access-answer (Access.Past short) = past 7 short
 
 -- A store's answer with the memory that it leaves.
 abbrev pub put-answer : Put → List ℕ → Stored

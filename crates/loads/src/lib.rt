@@ -5,7 +5,7 @@ ghost use mathlib.Core.Path.{_≡_};
 ghost use Prim.Native.Nat.{_+_};
 ghost use Rattle.standard.specs.Integer.{extend-s, extend-u};
 ghost use Rattle.standard.specs.Memory.{answered, load, load-splat, load-widen, load-lane};
-ghost use Rattle.access.specs.Access.{effective};
+ghost use Rattle.bounds.specs.Bounds.{effective};
 ghost use Rattle.simd.specs.Answer.{vector-answer};
 ghost use Rattle.simd.specs.Number.{number};
 ghost use Rattle.loads.specs.Answer.{load-answer};

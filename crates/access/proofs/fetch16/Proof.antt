@@ -1,6 +1,6 @@
 -- `access::fetch16` meets its contract. Assumes nothing.
 use borrow.Author.Needs.{needs}
-use Rattle.access.proofs.Bounds.{reached, fetched, unfetched}
+use Rattle.bounds.proofs.Bounds.{reached, fetched, unfetched}
 use Rattle.access.proofs.fetch16.Statement.{statement}
 use Rattle.access.proofs.fetch16.Tie as tie
 

@@ -1,6 +1,6 @@
 -- `access::fetch32` meets its contract. Assumes nothing.
 use borrow.Author.Needs.{needs}
-use Rattle.access.proofs.Bounds.{reached, fetched, unfetched}
+use Rattle.bounds.proofs.Bounds.{reached, fetched, unfetched}
 use Rattle.access.proofs.fetch32.Statement.{statement}
 use Rattle.access.proofs.fetch32.Tie as tie
 

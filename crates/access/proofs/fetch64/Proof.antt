@@ -1,6 +1,6 @@
 -- `access::fetch64` meets its contract. Assumes nothing.
 use borrow.Author.Needs.{needs}
-use Rattle.access.proofs.Bounds.{reached, fetched, unfetched}
+use Rattle.bounds.proofs.Bounds.{reached, fetched, unfetched}
 use Rattle.access.proofs.fetch64.Statement.{statement}
 use Rattle.access.proofs.fetch64.Tie as tie
 

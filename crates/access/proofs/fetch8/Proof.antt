@@ -1,6 +1,6 @@
 -- `access::fetch8` meets its contract. Assumes nothing.
 use borrow.Author.Needs.{needs}
-use Rattle.access.proofs.Bounds.{reached, fetched, unfetched}
+use Rattle.bounds.proofs.Bounds.{reached, fetched, unfetched}
 use Rattle.access.proofs.fetch8.Statement.{statement}
 use Rattle.access.proofs.fetch8.Tie as tie
 

@@ -1,6 +1,6 @@
 -- `access::put32` meets its contract. Assumes nothing.
 use borrow.Author.Needs.{needs}
-use Rattle.access.proofs.Bounds.{reached, put, unput}
+use Rattle.bounds.proofs.Bounds.{reached, put, unput}
 use Rattle.access.proofs.put32.Statement.{statement}
 use Rattle.access.proofs.put32.Tie as tie
 

@@ -1,8 +1,8 @@
--- `access::held` meets its contract. Assumes nothing.
+-- `bounds::held` meets its contract. Assumes nothing.
 use borrow.Author.Needs.{needs}
 use native.Mathlib.Omega.{arith}
-use Rattle.access.proofs.held.Statement.{statement}
-use Rattle.access.proofs.held.Tie as tie
+use Rattle.bounds.proofs.held.Statement.{statement}
+use Rattle.bounds.proofs.held.Tie as tie
 
 sub-if1 : tie.Need-sub-if1
 sub-if1 c = search needs

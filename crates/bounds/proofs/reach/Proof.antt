@@ -1,8 +1,8 @@
--- `access::reach` meets its contract. Assumes nothing.
+-- `bounds::reach` meets its contract. Assumes nothing.
 use borrow.Author.Needs.{needs}
 use native.Mathlib.Nat.{add-zero}
-use Rattle.access.proofs.reach.Statement.{statement}
-use Rattle.access.proofs.reach.Tie as tie
+use Rattle.bounds.proofs.reach.Statement.{statement}
+use Rattle.bounds.proofs.reach.Tie as tie
 
 enum-known-ea : tie.Need-enum-known-ea
 enum-known-ea c = search needs

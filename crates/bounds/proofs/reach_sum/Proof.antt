@@ -1,11 +1,11 @@
--- `access::reach_sum` meets its contract. Assumes nothing.
+-- `bounds::reach_sum` meets its contract. Assumes nothing.
 use borrow.Author.Needs.{needs}
 use borrow.Author.Tests.{ltb-true, ltb-false}
 use native.Mathlib.Omega.{arith}
 use mathlib.Core.Logic.{⊎-elim}
-use Rattle.access.proofs.Bounds.{within-reach, beyond-reach}
-use Rattle.access.proofs.reach_sum.Statement.{statement}
-use Rattle.access.proofs.reach_sum.Tie as tie
+use Rattle.bounds.proofs.Bounds.{within-reach, beyond-reach}
+use Rattle.bounds.proofs.reach_sum.Statement.{statement}
+use Rattle.bounds.proofs.reach_sum.Tie as tie
 
 wrapping-add-u64-requires : tie.Need-wrapping-add-u64-requires
 wrapping-add-u64-requires c κs = search needs

@@ -1,8 +1,8 @@
--- `access::shortfall` meets its contract. Assumes nothing.
+-- `bounds::shortfall` meets its contract. Assumes nothing.
 use borrow.Author.Needs.{needs}
-use Rattle.access.proofs.TakenOff.{held-off}
-use Rattle.access.proofs.shortfall.Statement.{statement}
-use Rattle.access.proofs.shortfall.Tie as tie
+use Rattle.bounds.proofs.TakenOff.{held-off}
+use Rattle.bounds.proofs.shortfall.Statement.{statement}
+use Rattle.bounds.proofs.shortfall.Tie as tie
 
 less-requires : tie.Need-less-requires
 less-requires c κs = search needs
@@ -26,7 +26,9 @@ held-requires-2 : tie.Need-held-requires-2
 held-requires-2 c κs = search needs
 
 returns : tie.Need-returns
-returns c = cc (held-off _ _ _ _ _)
+returns c =
+    rw (c .held2 .ensures, c .before .less5 .ensures, c .before .before .held .ensures, c .before .before .before .less4 .ensures, c .before .before .before .before .less3 .ensures, c .before .before .before .before .before .less2 .ensures, c .before .before .before .before .before .before .less .ensures)
+    (held-off _ _ _ _ _)
 
 pub shortfall-spec : {M : Type 1} → statement M
 shortfall-spec =
