@@ -35,6 +35,7 @@ fn plain(r: Request, indices: [u8; 16]) -> Answer {
         34..=42 => arithmetic::saturating(f, a, b),
         43..=56 => arithmetic::least_or_greatest(f, a, b),
         57..=60 | 85 | 215 => bitwise::bitwise(f, a, b, c),
+        61..=64 | 69..=76 => float::arithmetic(f, a, b),
         65..=68 => float::chosen(f, a, b),
         77..=84 | 86 => arithmetic::unary(f, a),
         87..=90 => float::sign(f, a),

@@ -3,3 +3,4 @@
 // bits, are the only ways in and out: any NaN pattern is one NaN, and a NaN result is the positive quiet pattern.
 pub mod binary32;
 pub mod binary64;
+pub mod choose;

@@ -16,7 +16,8 @@ pub fn binary(op: u16, a: V128, b: V128) -> V128
         77..=129 => i8x16(op, a, b),
         130..=159 => i16x8(op, a, b),
         160..=191 => i32x4(op, a, b),
-        _ => i64x2(op, a, b),
+        192..=223 => i64x2(op, a, b),
+        _ => floats(op, a, b),
     }
 }
 
@@ -161,9 +162,9 @@ fn i32x4(op: u16, a: V128, b: V128) -> V128
     }
 }
 
-// i64x2, and floats.
+// i64x2.
 fn i64x2(op: u16, a: V128, b: V128) -> V128
-    requires { ⌜ 192 ≤ op ⌝ }
+    requires { ⌜ (192 ≤ op) × (op < 224) ⌝ }
     ensures { λ r. ⌜ number r ≡ as-binary (instruction op) (number a) (number b) ⌝ }
 {
     match op {
@@ -180,8 +181,30 @@ fn i64x2(op: u16, a: V128, b: V128) -> V128
         221 => a.i64x2_extmul_high_i32x4_s(b),
         222 => a.i64x2_extmul_low_i32x4_u(b),
         223 => a.i64x2_extmul_high_i32x4_u(b),
+        _ => a,
+    }
+}
+
+// f32x4 and f64x2.
+fn floats(op: u16, a: V128, b: V128) -> V128
+    requires { ⌜ 224 ≤ op ⌝ }
+    ensures { λ r. ⌜ number r ≡ as-binary (instruction op) (number a) (number b) ⌝ }
+{
+    match op {
+        228 => a.f32x4_add(b),
+        229 => a.f32x4_sub(b),
+        230 => a.f32x4_mul(b),
+        231 => a.f32x4_div(b),
+        232 => a.f32x4_min(b),
+        233 => a.f32x4_max(b),
         234 => a.f32x4_pmin(b),
         235 => a.f32x4_pmax(b),
+        240 => a.f64x2_add(b),
+        241 => a.f64x2_sub(b),
+        242 => a.f64x2_mul(b),
+        243 => a.f64x2_div(b),
+        244 => a.f64x2_min(b),
+        245 => a.f64x2_max(b),
         246 => a.f64x2_pmin(b),
         247 => a.f64x2_pmax(b),
         _ => a,

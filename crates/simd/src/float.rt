@@ -1,10 +1,11 @@
-// Float lanes: the six comparisons, negation and absolute value on bits, pmin and pmax. Comparison is all ones or all zeros.
+// Float lanes: the six comparisons, negation and absolute value on bits, pmin and pmax, arithmetic. Comparison is all ones or all zeros.
 ghost use mathlib.Core.Path.{_≡_};
 ghost use lib.Ieee.{binary32, binary64};
-ghost use Rattle.standard.specs.Float.{feq, fne, flt, fgt, fle, fge, fneg, fabs, fpmin, fpmax};
+ghost use Rattle.standard.specs.Float.{feq, fne, flt, fgt, fle, fge, fneg, fabs, fpmin, fpmax, fadd, fsub, fmul, fdiv, fmin, fmax};
 ghost use Rattle.standard.specs.Lanes.{unary, binary};
 ghost use Rattle.simd.specs.Number.{number};
 use crate::V128;
+use float_arithmetic::choose::*;
 use lanewise::float::*;
 
 impl V128 {
@@ -126,5 +127,77 @@ impl V128 {
         ensures { λ r. ⌜ number r ≡ binary 64 (fpmax binary64) (number self) (number rhs) ⌝ }
     {
         self.float_binary64(rhs, PMAX)
+    }
+
+    pub fn f32x4_min(self, rhs: V128) -> V128
+        ensures { λ r. ⌜ number r ≡ binary 32 (fmin binary32) (number self) (number rhs) ⌝ }
+    {
+        self.arithmetic32(rhs, MIN)
+    }
+
+    pub fn f64x2_min(self, rhs: V128) -> V128
+        ensures { λ r. ⌜ number r ≡ binary 64 (fmin binary64) (number self) (number rhs) ⌝ }
+    {
+        self.arithmetic64(rhs, MIN)
+    }
+
+    pub fn f32x4_max(self, rhs: V128) -> V128
+        ensures { λ r. ⌜ number r ≡ binary 32 (fmax binary32) (number self) (number rhs) ⌝ }
+    {
+        self.arithmetic32(rhs, MAX)
+    }
+
+    pub fn f64x2_max(self, rhs: V128) -> V128
+        ensures { λ r. ⌜ number r ≡ binary 64 (fmax binary64) (number self) (number rhs) ⌝ }
+    {
+        self.arithmetic64(rhs, MAX)
+    }
+
+    pub fn f32x4_add(self, rhs: V128) -> V128
+        ensures { λ r. ⌜ number r ≡ binary 32 (fadd binary32) (number self) (number rhs) ⌝ }
+    {
+        self.arithmetic32(rhs, ADD)
+    }
+
+    pub fn f64x2_add(self, rhs: V128) -> V128
+        ensures { λ r. ⌜ number r ≡ binary 64 (fadd binary64) (number self) (number rhs) ⌝ }
+    {
+        self.arithmetic64(rhs, ADD)
+    }
+
+    pub fn f32x4_sub(self, rhs: V128) -> V128
+        ensures { λ r. ⌜ number r ≡ binary 32 (fsub binary32) (number self) (number rhs) ⌝ }
+    {
+        self.arithmetic32(rhs, SUB)
+    }
+
+    pub fn f64x2_sub(self, rhs: V128) -> V128
+        ensures { λ r. ⌜ number r ≡ binary 64 (fsub binary64) (number self) (number rhs) ⌝ }
+    {
+        self.arithmetic64(rhs, SUB)
+    }
+
+    pub fn f32x4_div(self, rhs: V128) -> V128
+        ensures { λ r. ⌜ number r ≡ binary 32 (fdiv binary32) (number self) (number rhs) ⌝ }
+    {
+        self.arithmetic32(rhs, DIV)
+    }
+
+    pub fn f64x2_div(self, rhs: V128) -> V128
+        ensures { λ r. ⌜ number r ≡ binary 64 (fdiv binary64) (number self) (number rhs) ⌝ }
+    {
+        self.arithmetic64(rhs, DIV)
+    }
+
+    pub fn f32x4_mul(self, rhs: V128) -> V128
+        ensures { λ r. ⌜ number r ≡ binary 32 (fmul binary32) (number self) (number rhs) ⌝ }
+    {
+        self.arithmetic32(rhs, MUL)
+    }
+
+    pub fn f64x2_mul(self, rhs: V128) -> V128
+        ensures { λ r. ⌜ number r ≡ binary 64 (fmul binary64) (number self) (number rhs) ⌝ }
+    {
+        self.arithmetic64(rhs, MUL)
     }
 }

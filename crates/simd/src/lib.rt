@@ -20,6 +20,7 @@ ghost use lib.Ieee.{binary32, binary64};
 ghost use lib.ListN.{take, replicate};
 ghost use Rattle.standard.specs.Lanes.{digits, joined, lanes, unary, binary, splat, extract, replace};
 ghost use Rattle.standard.specs.Refusal.{at-lane};
+ghost use Rattle.float_arithmetic.specs.Choose.{arithmetic-of};
 ghost use Rattle.lanewise.specs.Lanewise.{unaries, unaries8, unaries16, unaries32, binaries, binaries32, unary-of, binary-of};
 ghost use Rattle.lanewise.specs.LanewiseFloat.{float-unary-of, float-binary-of};
 ghost use Rattle.simd.specs.Number.{number};
@@ -336,6 +337,18 @@ impl V128 {
         V128::from_places32(a)
     }
 
+    // Over 32 places: 64 are too many to be unrolled.
+    fn arithmetic32(self, rhs: V128, op: u8) -> V128
+        ensures { λ r. ⌜ number r ≡ binary 32 (arithmetic-of binary32 op) (number self) (number rhs) ⌝ }
+    {
+        let mut a = self.places32();
+        let b = rhs.places32();
+        for i in 0..32 {
+            a[i] = float_arithmetic::choose::arithmetic32(op, a[i], b[i]);
+        }
+        V128::from_places32(a)
+    }
+
     // Lanes as unsigned numbers: every lane one number, the lane at a number (0 where there is none), and a vector with one lane changed.
     pub fn splat8(x: u8) -> V128
         ensures { λ r. ⌜ number r ≡ splat 8 x ⌝ }
@@ -493,6 +506,15 @@ impl V128 {
         V128 {
             lo: lanewise::float::float_binary64(op, self.lo, rhs.lo),
             hi: lanewise::float::float_binary64(op, self.hi, rhs.hi),
+        }
+    }
+
+    fn arithmetic64(self, rhs: V128, op: u8) -> V128
+        ensures { λ r. ⌜ number r ≡ binary 64 (arithmetic-of binary64 op) (number self) (number rhs) ⌝ }
+    {
+        V128 {
+            lo: float_arithmetic::choose::arithmetic64(op, self.lo, rhs.lo),
+            hi: float_arithmetic::choose::arithmetic64(op, self.hi, rhs.hi),
         }
     }
 }

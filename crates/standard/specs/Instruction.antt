@@ -5,7 +5,7 @@ use lib.ListN.{getD}
 use lib.Ieee.{binary32, binary64}
 use Rattle.standard.specs.Lanes.{lowHalf, highHalf, unary, binary, splat, extract, replace}
 use Rattle.standard.specs.Integer.{iadd, isub, imul, ineg, iabs, ipopcnt, imin-u, imin-s, imax-u, imax-s, iadd-sat-u, iadd-sat-s, isub-sat-u, isub-sat-s, iavgr-u, iq15mulrsat-s, ishl, ishr-u, ishr-s, ieq, ine, ilt-u, igt-u, ile-u, ige-u, ilt-s, igt-s, ile-s, ige-s, inot, iand, ior, ixor, iandnot, ibitselect, extend-u, extend-s, narrow-u, narrow-s}
-use Rattle.standard.specs.Float.{feq, fne, flt, fgt, fle, fge, fneg, fabs, fpmin, fpmax}
+use Rattle.standard.specs.Float.{feq, fne, flt, fgt, fle, fge, fneg, fabs, fpmin, fpmax, fadd, fsub, fmul, fdiv, fmin, fmax}
 use Rattle.standard.specs.Vector.{extend, extmul, extadd-pairwise, dot, narrow, swizzle, any-true, all-true, bitmask}
 
 -- The kinds of a scalar, and a number for each, by which two are told apart.
@@ -503,17 +503,17 @@ table =
     -- 227 f32x4.sqrt
     none ∷
     -- 228 f32x4.add
-    none ∷
+    vector₂ (binary 32 (fadd binary32)) ∷
     -- 229 f32x4.sub
-    none ∷
+    vector₂ (binary 32 (fsub binary32)) ∷
     -- 230 f32x4.mul
-    none ∷
+    vector₂ (binary 32 (fmul binary32)) ∷
     -- 231 f32x4.div
-    none ∷
+    vector₂ (binary 32 (fdiv binary32)) ∷
     -- 232 f32x4.min
-    none ∷
+    vector₂ (binary 32 (fmin binary32)) ∷
     -- 233 f32x4.max
-    none ∷
+    vector₂ (binary 32 (fmax binary32)) ∷
     -- 234 f32x4.pmin
     vector₂ (binary 32 (fpmin binary32)) ∷
     -- 235 f32x4.pmax
@@ -527,17 +527,17 @@ table =
     -- 239 f64x2.sqrt
     none ∷
     -- 240 f64x2.add
-    none ∷
+    vector₂ (binary 64 (fadd binary64)) ∷
     -- 241 f64x2.sub
-    none ∷
+    vector₂ (binary 64 (fsub binary64)) ∷
     -- 242 f64x2.mul
-    none ∷
+    vector₂ (binary 64 (fmul binary64)) ∷
     -- 243 f64x2.div
-    none ∷
+    vector₂ (binary 64 (fdiv binary64)) ∷
     -- 244 f64x2.min
-    none ∷
+    vector₂ (binary 64 (fmin binary64)) ∷
     -- 245 f64x2.max
-    none ∷
+    vector₂ (binary 64 (fmax binary64)) ∷
     -- 246 f64x2.pmin
     vector₂ (binary 64 (fpmin binary64)) ∷
     -- 247 f64x2.pmax

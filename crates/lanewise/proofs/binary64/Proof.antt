@@ -2,8 +2,7 @@
 use borrow.Author.Needs.{needs}
 use lib.ListN.{take}
 use Rattle.lanewise.specs.Lanewise.{binaries}
-use Rattle.standard.proofs.Match.{past}
-use Rattle.lanewise.proofs.Numbers.{no-binary}
+use Rattle.standard.proofs.Match.{past, no-binary}
 use Rattle.lanewise.proofs.binary64.Statement.{statement}
 use Rattle.lanewise.proofs.binary64.Tie as tie
 

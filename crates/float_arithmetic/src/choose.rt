@@ -1,0 +1,46 @@
+// An operation by its number, which a loop over lanes is told.
+ghost use mathlib.Core.Path.{_≡_};
+ghost use lib.Ieee.{binary32, binary64};
+ghost use Rattle.float_arithmetic.specs.Choose.{arithmetic-of};
+use crate::binary32::*;
+use crate::binary64::*;
+
+pub const ADD: u8 = 0;
+
+pub const SUB: u8 = 1;
+
+pub const MUL: u8 = 2;
+
+pub const DIV: u8 = 3;
+
+pub const MIN: u8 = 4;
+
+pub const MAX: u8 = 5;
+
+pub fn arithmetic32(op: u8, a: u32, b: u32) -> u32
+    ensures { λ r. ⌜ r ≡ arithmetic-of binary32 op a b ⌝ }
+{
+    match op {
+        ADD => fadd32(a, b),
+        SUB => fsub32(a, b),
+        MUL => fmul32(a, b),
+        DIV => fdiv32(a, b),
+        MIN => fmin32(a, b),
+        MAX => fmax32(a, b),
+        _ => 0,
+    }
+}
+
+pub fn arithmetic64(op: u8, a: u64, b: u64) -> u64
+    ensures { λ r. ⌜ r ≡ arithmetic-of binary64 op a b ⌝ }
+{
+    match op {
+        ADD => fadd64(a, b),
+        SUB => fsub64(a, b),
+        MUL => fmul64(a, b),
+        DIV => fdiv64(a, b),
+        MIN => fmin64(a, b),
+        MAX => fmax64(a, b),
+        _ => 0,
+    }
+}
