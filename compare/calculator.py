@@ -15,6 +15,7 @@ import os
 import re
 import struct
 import sys
+from fractions import Fraction
 from pathlib import Path
 from typing import NamedTuple
 
@@ -81,18 +82,26 @@ class Ending(NamedTuple):
     paused: int = None
 
 
+# What the list of instruction numbers says of an instruction that has a step: the document that gives it one. It tells the operands of document 01's; those
+# of an order's take so many vectors and give one.
+STEPS = {"document 01": None, "order 4": 2}
+
+
 def read_instructions():
-    """The instructions that document 01 gives a calculator step, by their numbers."""
+    """The instructions that have a calculator step, by their numbers."""
     shared = Path(os.environ.get("SHARED") or REPOSITORY.parent / "shared")
     path = Path(os.environ.get("OPCODES") or shared / "standard" / "opcodes.tsv")
     try:
         rows = csv.DictReader(path.read_text().splitlines(), delimiter="\t")
     except OSError as error:
         sys.exit("no list of instruction numbers (the variable OPCODES can name it): %s" % error)
-    return {int(row["number"]): instruction_of(row) for row in rows if row.get("calculator step") == "document 01"}
+    return {int(row["number"]): instruction_of(row) for row in rows if row.get("calculator step") in STEPS}
 
 
 def instruction_of(row):
+    sources = STEPS[row["calculator step"]]
+    if sources is not None:
+        return Instruction(int(row["number"]), row["name"], sources, 256, "-", False, "vector")
     return Instruction(
         number=int(row["number"]),
         name=row["name"],
@@ -138,6 +147,112 @@ def truth(holds):
 def float_of(N, bits):
     # Python compares floats as the standard does: "With a NaN only "not equal" is true. −0 equals +0."
     return struct.unpack({32: "<f", 64: "<d"}[N], bits.to_bytes(N // 8, "little"))[0]
+
+
+# Floats. A pattern of N bits is a sign, a field for the exponent and M digits; a finite one is a sign and a fraction of whole numbers.
+
+DIGITS = {32: 23, 64: 52}
+
+# "here every NaN result is the positive quiet one" (order 4)
+NAN = {32: 0x7FC00000, 64: 0x7FF8000000000000}
+
+
+def bias(N):
+    return 2 ** (N - DIGITS[N] - 2) - 1
+
+
+def infinity(N):
+    return (2 * bias(N) + 1) << DIGITS[N]
+
+
+def magnitude(N, z):
+    return z % 2 ** (N - 1)
+
+
+def is_negative(N, z):
+    return z >= 2 ** (N - 1)
+
+
+def is_nan(N, z):
+    return magnitude(N, z) > infinity(N)
+
+
+def is_infinite(N, z):
+    return magnitude(N, z) == infinity(N)
+
+
+def size(N, z):
+    """The magnitude of a finite pattern, as a fraction."""
+    M = DIGITS[N]
+    field, digits = magnitude(N, z) >> M, z % 2**M
+    return Fraction(digits + (2**M if field else 0)) * Fraction(2) ** (max(field, 1) - bias(N) - M)
+
+
+def exact(N, z):
+    """The number that a finite pattern stands for."""
+    return -size(N, z) if is_negative(N, z) else size(N, z)
+
+
+def with_sign(N, negative, z):
+    return z + negative * 2 ** (N - 1)
+
+
+def rounded(N, negative, number):
+    """The pattern nearest to a number of this sign and magnitude, a tie to the even one."""
+    if number == 0:
+        return with_sign(N, negative, 0)
+    M = DIGITS[N]
+    power = number.numerator.bit_length() - number.denominator.bit_length()
+    power -= Fraction(2) ** power > number
+    power = max(power, 1 - bias(N))
+    # Python rounds a fraction to the even neighbour at a tie. Patterns stand in the order of their numbers, so a carry runs on into the field.
+    digits = round(number / Fraction(2) ** (power - M))
+    return with_sign(N, negative, min(digits + ((power + bias(N) - 1) << M), infinity(N)))
+
+
+def fadd(N, z1, z2):
+    if is_nan(N, z1) or is_nan(N, z2):
+        return NAN[N]
+    signs = is_negative(N, z1), is_negative(N, z2)
+    if is_infinite(N, z1) or is_infinite(N, z2):
+        if is_infinite(N, z1) and is_infinite(N, z2) and signs[0] != signs[1]:
+            return NAN[N]
+        return z1 if is_infinite(N, z1) else z2
+    total = exact(N, z1) + exact(N, z2)
+    # The sum of zeros of one sign has it; any other sum that is zero is +0.
+    return rounded(N, total < 0 or (total == 0 and all(signs)), abs(total))
+
+
+def fmul(N, z1, z2):
+    negative = is_negative(N, z1) != is_negative(N, z2)
+    if is_nan(N, z1) or is_nan(N, z2):
+        return NAN[N]
+    if is_infinite(N, z1) or is_infinite(N, z2):
+        return NAN[N] if 0 in (magnitude(N, z1), magnitude(N, z2)) else with_sign(N, negative, infinity(N))
+    return rounded(N, negative, size(N, z1) * size(N, z2))
+
+
+def fdiv(N, z1, z2):
+    negative = is_negative(N, z1) != is_negative(N, z2)
+    if is_nan(N, z1) or is_nan(N, z2) or (is_infinite(N, z1) and is_infinite(N, z2)) or (magnitude(N, z1) == magnitude(N, z2) == 0):
+        return NAN[N]
+    if is_infinite(N, z1) or magnitude(N, z2) == 0:
+        return with_sign(N, negative, infinity(N))
+    if is_infinite(N, z2):
+        return with_sign(N, negative, 0)
+    return rounded(N, negative, size(N, z1) / size(N, z2))
+
+
+def place(N, z):
+    """The place of a number that is no NaN, "−0 below +0" (order 4)."""
+    return -magnitude(N, z) - 1 if is_negative(N, z) else magnitude(N, z)
+
+
+def chosen(N, choose, z1, z2):
+    # "give NaN if either input is one" (order 4)
+    if is_nan(N, z1) or is_nan(N, z2):
+        return NAN[N]
+    return choose(z1, z2, key=lambda z: place(N, z))
 
 
 # What the instructions make of one lane of each source. `joined` takes the result modulo 2^N.
@@ -188,6 +303,12 @@ FLOAT = {
     # "pmin is b where b < a, else a. pmax is b where a < b, else a. Result bits are those of the chosen lane."
     "pmin": lambda N, z1, z2: z2 if float_of(N, z2) < float_of(N, z1) else z1,
     "pmax": lambda N, z1, z2: z2 if float_of(N, z1) < float_of(N, z2) else z1,
+    "add": fadd,
+    "sub": lambda N, z1, z2: fadd(N, z1, z2 ^ 2 ** (N - 1)),
+    "mul": fmul,
+    "div": fdiv,
+    "min": lambda N, z1, z2: chosen(N, min, z1, z2),
+    "max": lambda N, z1, z2: chosen(N, max, z1, z2),
 }
 
 # "Shift: the count is taken modulo the lane width [by the caller]. shr_s is the floor of the signed lane over 2^count."

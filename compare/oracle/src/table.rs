@@ -1,4 +1,4 @@
-//! Every base function under its number, with what it reads, and the call.
+//! Every function that is carried over under its number, with what it reads, and the call.
 
 use crate::wire::{ACCESS_REFUSED, Answer, MEMORY, NO_FUNCTION, Outcome, PACKED, Request, answer_bytes, set_shortfall};
 use crate::{FUNCTIONS, families};
@@ -22,6 +22,15 @@ impl Lane {
             Lane::I16 => 16,
             Lane::I32 | Lane::F32 => 32,
             Lane::I64 | Lane::F64 => 64,
+        }
+    }
+
+    /// The positive quiet NaN, and the infinity, above which every pattern but for the sign is a NaN's; none for whole numbers.
+    pub fn nan_and_infinity(self) -> Option<(u64, u64)> {
+        match self {
+            Lane::F32 => Some((0x7fc0_0000, 0x7f80_0000)),
+            Lane::F64 => Some((0x7ff8_0000_0000_0000, 0x7ff0_0000_0000_0000)),
+            _ => None,
         }
     }
 
@@ -58,11 +67,23 @@ pub enum Shape {
     Swizzle,
     Unary(Lane),
     Binary(Lane),
+    /// Two vectors of float lanes, with a rounded result.
+    Arithmetic(Lane),
     Select,
     Shift(Lane),
     Reduce(Lane),
     Bits,
     Memory(Access),
+}
+
+impl Shape {
+    /// The lanes of a result in which the standard leaves the bits of a NaN open.
+    fn open_nans(self) -> Option<Lane> {
+        match self {
+            Shape::Arithmetic(lane) => Some(lane),
+            _ => None,
+        }
+    }
 }
 
 /// One function of simd.rs.
@@ -73,10 +94,13 @@ pub struct Entry {
     pub call: fn(&Request, &mut [u8]) -> Result<Outcome, u8>,
 }
 
+/// What the list of functions says of those that are carried over: when they arrive.
+const CARRIED: [&str; 2] = ["base", "order 4"];
+
 /// A line of the list of functions.
 pub struct Listed {
     pub name: &'static str,
-    pub base: bool,
+    pub carried: bool,
     pub opcode: Option<u32>,
 }
 
@@ -84,7 +108,7 @@ pub struct Listed {
 pub fn listed() -> Vec<Listed> {
     let line = |line: &'static str| {
         let columns: Vec<_> = line.split('\t').collect();
-        Listed { name: columns[0], base: columns[1] == "base", opcode: columns[3].parse().ok() }
+        Listed { name: columns[0], carried: CARRIED.contains(&columns[1]), opcode: columns[3].parse().ok() }
     };
     FUNCTIONS.lines().skip(1).map(line).collect()
 }
@@ -92,7 +116,7 @@ pub fn listed() -> Vec<Listed> {
 fn build() -> Vec<Option<Entry>> {
     let entries: Vec<Entry> = families::all();
     let find = |listed: &Listed| entries.iter().find(|entry| entry.name == listed.name).copied();
-    let table: Vec<_> = listed().iter().map(|listed| listed.base.then(|| find(listed).expect(listed.name))).collect();
+    let table: Vec<_> = listed().iter().map(|listed| listed.carried.then(|| find(listed).expect(listed.name))).collect();
     assert_eq!(table.iter().flatten().count(), entries.len(), "an entry that the list does not have");
     table
 }
@@ -133,6 +157,27 @@ pub fn name(number: u16) -> String {
     }
 }
 
+/// A result whose NaN lanes are the positive quiet one (document 02, order 4). The Rust's NaN has any bits, so a comparison with this is equal where both
+/// are NaN and ours has the one pattern.
+fn with_one_nan(outcome: Outcome, shape: Shape) -> Outcome {
+    let (Outcome::Vector(vector), Some(lane)) = (outcome, shape.open_nans()) else {
+        return outcome;
+    };
+    let Some((nan, infinity)) = lane.nan_and_infinity() else {
+        return outcome;
+    };
+    let mut bytes = vector.bytes();
+    for part in bytes.chunks_exact_mut(lane.width() as usize / 8) {
+        let size = part.len();
+        let mut bits = [0; 8];
+        bits[..size].copy_from_slice(part);
+        if u64::from_le_bytes(bits) & ((1 << (lane.width() - 1)) - 1) > infinity {
+            part.copy_from_slice(&nan.to_le_bytes()[..size]);
+        }
+    }
+    Outcome::Vector(bytes.into())
+}
+
 /// The Rust's answer, and the shortfall of an access that it refuses.
 pub fn answer(request: &Request) -> Answer {
     let length = usize::from(request.length);
@@ -141,7 +186,7 @@ pub fn answer(request: &Request) -> Answer {
     };
     let mut memory = request.memory;
     let lent = &mut memory[..length];
-    let result = (entry.call)(request, lent);
+    let result = (entry.call)(request, lent).map(|outcome| with_one_nan(outcome, entry.shape));
     let Shape::Memory(access) = entry.shape else {
         return answer_bytes(result, &[]);
     };

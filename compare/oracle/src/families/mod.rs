@@ -17,6 +17,7 @@ macro_rules! binary {
     } ),* ] };
 }
 
+mod float;
 mod lanes;
 mod lanewise;
 mod memory;
@@ -30,7 +31,7 @@ use crate::wire::{ACCESS_REFUSED, LANE_REFUSED};
 
 /// Every call there is.
 pub fn all() -> Vec<Entry> {
-    [lanes::entries(), lanewise::entries(), widen::entries(), reduce::entries(), memory::entries()].concat()
+    [lanes::entries(), lanewise::entries(), float::entries(), widen::entries(), reduce::entries(), memory::entries()].concat()
 }
 
 /// The lane of a request, made as the Rust makes it.

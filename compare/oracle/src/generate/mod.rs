@@ -4,6 +4,7 @@
 
 mod access;
 mod corners;
+mod float;
 mod lanes;
 mod random;
 mod vectors;
@@ -71,6 +72,7 @@ pub fn function(number: u16, shape: Shape) -> Generator {
         Shape::Swizzle => lanes::swizzle(&mut generator),
         Shape::Unary(lane) => vectors::unary(&mut generator, lane),
         Shape::Binary(lane) => vectors::binary(&mut generator, lane),
+        Shape::Arithmetic(lane) => float::arithmetic(&mut generator, lane),
         Shape::Select => vectors::select(&mut generator),
         Shape::Shift(lane) => vectors::shift(&mut generator, lane),
         Shape::Reduce(lane) => vectors::reduce(&mut generator, lane),

@@ -5,7 +5,7 @@ use super::{Generator, RANDOM};
 use crate::table::Lane;
 
 /// Every pair of corner values, in every place of the two vectors.
-fn corner_pairs(generator: &mut Generator, lanes: &Lanes) {
+pub fn corner_pairs(generator: &mut Generator, lanes: &Lanes) {
     generator.section("corner pairs");
     let count = lanes.corners.len();
     for first in 0..count * count {

@@ -1,29 +1,61 @@
-//! STAND-IN, not the original: `wasmi_core::wasm`. Float arithmetic, rounding and conversions are not base operations; these names only
-//! let simd.rs compile, and no request reaches them.
+//! STAND-IN, not the original: `wasmi_core::wasm`. Float arithmetic by Rust's own operators, as the standard has it. Square roots, roundings and
+//! conversions are not carried over: no request reaches them.
+
+macro_rules! arithmetic {
+    ( $( $ty:ty: $min:ident $max:ident $add:ident $sub:ident $mul:ident $div:ident $sqrt:ident; )* ) => { $(
+        /// Equal numbers have one pattern, but for the zeros: there either sign bit makes the least negative.
+        pub fn $min(a: $ty, b: $ty) -> $ty {
+            match (a.is_nan() || b.is_nan(), a == b) {
+                (true, _) => <$ty>::NAN,
+                (_, true) => <$ty>::from_bits(a.to_bits() | b.to_bits()),
+                _ => a.min(b),
+            }
+        }
+
+        pub fn $max(a: $ty, b: $ty) -> $ty {
+            match (a.is_nan() || b.is_nan(), a == b) {
+                (true, _) => <$ty>::NAN,
+                (_, true) => <$ty>::from_bits(a.to_bits() & b.to_bits()),
+                _ => a.max(b),
+            }
+        }
+
+        pub fn $add(a: $ty, b: $ty) -> $ty {
+            a + b
+        }
+
+        pub fn $sub(a: $ty, b: $ty) -> $ty {
+            a - b
+        }
+
+        pub fn $mul(a: $ty, b: $ty) -> $ty {
+            a * b
+        }
+
+        pub fn $div(a: $ty, b: $ty) -> $ty {
+            a / b
+        }
+
+        pub fn $sqrt(_: $ty) -> $ty {
+            unimplemented!("not carried over")
+        }
+    )* };
+}
+
+arithmetic! {
+    f32: f32_min f32_max f32_add f32_sub f32_mul f32_div f32_sqrt;
+    f64: f64_min f64_max f64_add f64_sub f64_mul f64_div f64_sqrt;
+}
 
 macro_rules! not_here {
     ( $( fn $name:ident( $( $arg:ty ),* ) -> $result:ty; )* ) => { $(
         pub fn $name( $( _: $arg ),* ) -> $result {
-            unimplemented!("not a base operation")
+            unimplemented!("not carried over")
         }
     )* };
 }
 
 not_here! {
-    fn f32_min(f32, f32) -> f32;
-    fn f64_min(f64, f64) -> f64;
-    fn f32_max(f32, f32) -> f32;
-    fn f64_max(f64, f64) -> f64;
-    fn f32_add(f32, f32) -> f32;
-    fn f64_add(f64, f64) -> f64;
-    fn f32_sub(f32, f32) -> f32;
-    fn f64_sub(f64, f64) -> f64;
-    fn f32_div(f32, f32) -> f32;
-    fn f64_div(f64, f64) -> f64;
-    fn f32_mul(f32, f32) -> f32;
-    fn f64_mul(f64, f64) -> f64;
-    fn f32_sqrt(f32) -> f32;
-    fn f64_sqrt(f64) -> f64;
     fn f32_ceil(f32) -> f32;
     fn f64_ceil(f64) -> f64;
     fn f32_floor(f32) -> f32;

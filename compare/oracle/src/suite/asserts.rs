@@ -1,4 +1,4 @@
-//! The rows of asserts.tsv: those of base operations become records, the others are counted.
+//! The rows of asserts.tsv: those of operations that are carried over become records, the others are counted.
 
 use super::{bits, bytes, place, result, vector};
 use crate::records::Record;
@@ -9,7 +9,7 @@ use std::collections::BTreeMap;
 /// What the file gives.
 pub struct Asserts {
     pub rows: usize,
-    /// Set 1: every row of a base operation.
+    /// Set 1: every row of an operation that is carried over.
     pub records: Vec<Record>,
     /// Set 3: the rows of set 1 whose operation has a packed form, through that form.
     pub packed: Vec<Record>,
@@ -27,7 +27,7 @@ struct Functions {
 
 fn functions() -> BTreeMap<u32, Functions> {
     let mut functions: BTreeMap<u32, Functions> = BTreeMap::new();
-    for (number, listed) in table::listed().iter().enumerate().filter(|(_, listed)| listed.base) {
+    for (number, listed) in table::listed().iter().enumerate().filter(|(_, listed)| listed.carried) {
         let Some(opcode) = listed.opcode else { continue };
         let form = functions.entry(opcode).or_default();
         match listed.name.ends_with("_at") {
@@ -82,7 +82,7 @@ fn set_memory(record: &mut Record, access: Access, columns: &[&str]) -> Option<(
 
 /// The record of a row.
 fn record(number: u16, columns: &[&str]) -> Option<Record> {
-    let entry = table::entry(number).expect("a base function");
+    let entry = table::entry(number).expect("a function");
     let (expected, mask) = result::expected(columns[9], entry.name.ends_with("_true"));
     let mut record = Record { set: 1, request: request(number, entry.shape, columns), expected, mask };
     if let Shape::Memory(access) = entry.shape {
@@ -104,12 +104,12 @@ fn through_at(record: &Record, at: u16) -> Record {
     Record { set: 4, request: Request { function: at, pointer: address, offset: 0, ..record.request }, ..*record }
 }
 
-/// Why an instruction without a base function is left out.
+/// Why an instruction without a function is left out.
 fn reason(instruction: &str) -> String {
     match instruction {
         "v128.const" => "v128.const: simd.rs has no function for it".to_string(),
-        relaxed if relaxed.contains("relaxed") => "relaxed operations: not base operations".to_string(),
-        _ => "float arithmetic, rounding and conversions: not base operations".to_string(),
+        relaxed if relaxed.contains("relaxed") => "relaxed operations: not carried over".to_string(),
+        _ => "square roots, roundings and conversions of floats: not carried over".to_string(),
     }
 }
 

@@ -13,7 +13,7 @@ fn record(line: &str) -> Record {
     let value = columns[1].parse().expect("a number");
     let mut request = Request::zero(number);
     let mut expected = [0; ANSWER];
-    match table::entry(number).expect("a base function").shape {
+    match table::entry(number).expect("a function").shape {
         Shape::Shuffle => (request.c[0], expected[0]) = (value, INDEX_REFUSED),
         shape => {
             (request.lane, expected[0]) = (value, LANE_REFUSED);
