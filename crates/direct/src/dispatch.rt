@@ -4,6 +4,7 @@ use crate::answer::Answer;
 use crate::arithmetic;
 use crate::bitwise;
 use crate::compare;
+use crate::convert;
 use crate::float;
 use crate::lanes;
 use crate::layout::*;
@@ -39,6 +40,8 @@ fn plain(r: Request, indices: [u8; 16]) -> Answer {
         65..=68 => float::chosen(f, a, b),
         77..=84 | 86 => arithmetic::unary(f, a),
         87..=90 => float::sign(f, a),
+        93..=100 => convert::rounded(f, a),
+        101..=104 | 159..=161 | 200..=202 => convert::convert(f, a),
         105..=116 => compare::equality(f, a, b),
         117..=134 => compare::less(f, a, b),
         135..=152 => compare::greater(f, a, b),

@@ -6,6 +6,7 @@ mod arithmetic;
 mod bitwise;
 mod checking;
 mod compare;
+mod convert;
 mod dispatch;
 mod float;
 mod lanes;

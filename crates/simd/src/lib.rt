@@ -4,6 +4,7 @@ pub mod answer;
 pub mod arithmetic;
 pub mod bitwise;
 pub mod compare;
+pub mod convert;
 pub mod extract;
 pub mod float;
 pub mod rearrange;

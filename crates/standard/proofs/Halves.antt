@@ -27,7 +27,7 @@ tail-elements : (x : ℕ) (xs : List ℕ) (i n : ℕ) → elements (x ∷ xs) (s
 tail-elements x xs i zero = refl
 tail-elements x xs i (suc n) = ap (λ (r : List ℕ). getD xs i 0 ∷ r) (tail-elements x xs (suc i) n)
 
-all-elements : (xs : List ℕ) (n : ℕ) → length xs ≡ n → elements xs 0 n ≡ xs
+pub all-elements : (xs : List ℕ) (n : ℕ) → length xs ≡ n → elements xs 0 n ≡ xs
 all-elements [] zero e = refl
 all-elements [] (suc n) e = absurd (suc-ne-zero n (sym e))
 all-elements (x ∷ xs) zero e = absurd (suc-ne-zero (length xs) e)
@@ -90,6 +90,12 @@ module _ (w n : ℕ) (half : w * n ≡ 64) where
         same = length-digits w n a ∙ sym (length-digits w n c)
 
 -- halves that are one lane each
+pub lanes-64 : (a b : ℕ) → a < 2 ^ 64 → b < 2 ^ 64 → lanes 64 (a + 2 ^ 64 * b) ≡ a ∷ b ∷ []
+lanes-64 a b ha hb = lanes-halves 64 1 refl refl a b ha ∙ ap₂ (λ (x y : ℕ). x ∷ y ∷ []) (mod-eq-of-lt ha) (mod-eq-of-lt hb)
+
+pub joined-64 : (x y : ℕ) {ds : List ℕ} → ds ≡ x ∷ y ∷ [] → getD ds 0 0 + 2 ^ 64 * getD ds 1 0 ≡ joined 64 (x ∷ y ∷ [])
+joined-64 x y e = rw e (ap (λ (z : ℕ). x + 2 ^ 64 * z) (sym (add-zero y)))
+
 pub unary-64 : (f : ℕ → ℕ) (a b : ℕ) → a < 2 ^ 64 → b < 2 ^ 64 → {lo hi : ℕ} → lo ≡ f a → hi ≡ f b → lo + 2 ^ 64 * hi ≡ unary 64 f (a + 2 ^ 64 * b)
 unary-64 f a b ha hb el eh = unary-halves 64 1 refl refl a b ha f (el ∙ lane a ha) (eh ∙ lane b hb)
   where

@@ -6,7 +6,8 @@ use lib.Ieee.{binary32, binary64}
 use Rattle.standard.specs.Lanes.{lowHalf, highHalf, unary, binary, splat, extract, replace}
 use Rattle.standard.specs.Integer.{iadd, isub, imul, ineg, iabs, ipopcnt, imin-u, imin-s, imax-u, imax-s, iadd-sat-u, iadd-sat-s, isub-sat-u, isub-sat-s, iavgr-u, iq15mulrsat-s, ishl, ishr-u, ishr-s, ieq, ine, ilt-u, igt-u, ile-u, ige-u, ilt-s, igt-s, ile-s, ige-s, inot, iand, ior, ixor, iandnot, ibitselect, extend-u, extend-s, narrow-u, narrow-s}
 use Rattle.standard.specs.Float.{feq, fne, flt, fgt, fle, fge, fneg, fabs, fpmin, fpmax, fadd, fsub, fmul, fdiv, fmin, fmax}
-use Rattle.standard.specs.Vector.{extend, extmul, extadd-pairwise, dot, narrow, swizzle, any-true, all-true, bitmask}
+use Rattle.standard.specs.Convert.{fceil, ffloor, ftrunc, fnearest, demote, promote, convert-u, convert-s, trunc-sat-u, trunc-sat-s}
+use Rattle.standard.specs.Vector.{extend, extmul, extadd-pairwise, dot, narrow, convert-low, convert-zero, swizzle, any-true, all-true, bitmask}
 
 -- The kinds of a scalar, and a number for each, by which two are told apart.
 pub data Kind : Type 0 where
@@ -235,9 +236,9 @@ table =
     -- 93 v128.load64_zero
     memory ∷
     -- 94 f32x4.demote_f64x2_zero
-    none ∷
+    vector₁ (convert-zero demote) ∷
     -- 95 f64x2.promote_low_f32x4
-    none ∷
+    vector₁ (convert-low promote) ∷
     -- 96 i8x16.abs
     vector₁ (unary 8 (iabs 8)) ∷
     -- 97 i8x16.neg
@@ -253,13 +254,13 @@ table =
     -- 102 i8x16.narrow_i16x8_u
     vector₂ (narrow narrow-u 8) ∷
     -- 103 f32x4.ceil
-    none ∷
+    vector₁ (unary 32 (fceil binary32)) ∷
     -- 104 f32x4.floor
-    none ∷
+    vector₁ (unary 32 (ffloor binary32)) ∷
     -- 105 f32x4.trunc
-    none ∷
+    vector₁ (unary 32 (ftrunc binary32)) ∷
     -- 106 f32x4.nearest
-    none ∷
+    vector₁ (unary 32 (fnearest binary32)) ∷
     -- 107 i8x16.shl
     shifted (λ k. unary 8 (ishl 8 k)) ∷
     -- 108 i8x16.shr_s
@@ -279,9 +280,9 @@ table =
     -- 115 i8x16.sub_sat_u
     vector₂ (binary 8 (isub-sat-u 8)) ∷
     -- 116 f64x2.ceil
-    none ∷
+    vector₁ (unary 64 (fceil binary64)) ∷
     -- 117 f64x2.floor
-    none ∷
+    vector₁ (unary 64 (ffloor binary64)) ∷
     -- 118 i8x16.min_s
     vector₂ (binary 8 (imin-s 8)) ∷
     -- 119 i8x16.min_u
@@ -291,7 +292,7 @@ table =
     -- 121 i8x16.max_u
     vector₂ (binary 8 (imax-u 8)) ∷
     -- 122 f64x2.trunc
-    none ∷
+    vector₁ (unary 64 (ftrunc binary64)) ∷
     -- 123 i8x16.avgr_u
     vector₂ (binary 8 (iavgr-u 8)) ∷
     -- 124 i16x8.extadd_pairwise_i8x16_s
@@ -343,7 +344,7 @@ table =
     -- 147 i16x8.sub_sat_u
     vector₂ (binary 16 (isub-sat-u 16)) ∷
     -- 148 f64x2.nearest
-    none ∷
+    vector₁ (unary 64 (fnearest binary64)) ∷
     -- 149 i16x8.mul
     vector₂ (binary 16 (imul 16)) ∷
     -- 150 i16x8.min_s
@@ -543,21 +544,21 @@ table =
     -- 247 f64x2.pmax
     vector₂ (binary 64 (fpmax binary64)) ∷
     -- 248 i32x4.trunc_sat_f32x4_s
-    none ∷
+    vector₁ (unary 32 (trunc-sat-s binary32)) ∷
     -- 249 i32x4.trunc_sat_f32x4_u
-    none ∷
+    vector₁ (unary 32 (trunc-sat-u binary32)) ∷
     -- 250 f32x4.convert_i32x4_s
-    none ∷
+    vector₁ (unary 32 (convert-s binary32)) ∷
     -- 251 f32x4.convert_i32x4_u
-    none ∷
+    vector₁ (unary 32 (convert-u binary32)) ∷
     -- 252 i32x4.trunc_sat_f64x2_s_zero
-    none ∷
+    vector₁ (convert-zero (trunc-sat-s binary64)) ∷
     -- 253 i32x4.trunc_sat_f64x2_u_zero
-    none ∷
+    vector₁ (convert-zero (trunc-sat-u binary64)) ∷
     -- 254 f64x2.convert_low_i32x4_s
-    none ∷
+    vector₁ (convert-low (convert-s binary64)) ∷
     -- 255 f64x2.convert_low_i32x4_u
-    none ∷
+    vector₁ (convert-low (convert-u binary64)) ∷
     -- 256 i8x16.relaxed_swizzle
     none ∷
     -- 257 i32x4.relaxed_trunc_f32x4_s

@@ -5,7 +5,7 @@ use mathlib.Core.List.{List, [], _∷_, _++_, map}
 use lib.ListN.{getD}
 use lib.Dec.{eqb}
 use lib.Signed.{nonNeg}
-use Rattle.standard.specs.Lanes.{digits, joined, lanes, zip, pairwise}
+use Rattle.standard.specs.Lanes.{digits, joined, lanes, zip, pairwise, lowHalf}
 use Rattle.standard.specs.Integer.{signed, iadd, imul, extend-s}
 
 -- shape.extend_half_sx from lanes of width w: `half` is lowHalf or highHalf, `sx` is extend-u or extend-s.
@@ -28,6 +28,14 @@ dot x y = joined 32 (pairwise (iadd 32) (zip (imul 32) (map (extend-s 16 32) (la
 -- shape.narrow_sx to lanes of width w: `sx` is narrow-u or narrow-s. The first vector gives the low lanes.
 unfoldable pub narrow : (ℕ → ℕ → ℕ → ℕ) → ℕ → ℕ → ℕ → ℕ
 narrow sx w x y = joined w (map (sx (2 * w) w) (lanes (2 * w) x ++ lanes (2 * w) y))
+
+-- f64x2.vcvtop_low: the operation of the low lanes of 32 bits.
+unfoldable pub convert-low : (ℕ → ℕ) → ℕ → ℕ
+convert-low f x = joined 64 (map f (lowHalf (lanes 32 x)))
+
+-- shape.vcvtop_zero: the operation of both lanes of 64 bits, then two lanes of zeros.
+unfoldable pub convert-zero : (ℕ → ℕ) → ℕ → ℕ
+convert-zero f x = joined 32 (map f (lanes 64 x) ++ 0 ∷ 0 ∷ [])
 
 -- i8x16.swizzle: the lanes of x that the lanes of s name; an index of 16 to 255 gives 0.
 unfoldable pub swizzle : ℕ → ℕ → ℕ

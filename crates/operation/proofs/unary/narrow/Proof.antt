@@ -11,10 +11,11 @@ unfolding instruction table
 narrow-spec =
     tie.close
     (tie.spec
-    nothing nothing nothing nothing nothing nothing nothing nothing nothing nothing nothing nothing nothing nothing
+    nothing nothing nothing nothing nothing nothing nothing nothing nothing nothing nothing nothing nothing nothing nothing nothing nothing
     (λ c. rw (c .before .match .keys1) (search)) (λ c. rw (c .before .match .keys2) (search)) (λ c. rw (c .before .match .keys3) (search))
     (λ c. rw (c .before .match .keys4) (search)) (λ c. rw (c .before .match .keys5) (search)) (λ c. rw (c .before .match .keys6) (search))
     (λ c. rw (c .before .match .keys7) (search)) (λ c. rw (c .before .match .keys8) (search)) (λ c. rw (c .before .match .keys9) (search))
     (λ c. rw (c .before .match .keys10) (search)) (λ c. rw (c .before .match .keys11) (search)) (λ c. rw (c .before .match .keys12) (search))
-    (λ c. rw (c .before .match .keys13) (search)) (λ c. rw (c .before .match .keys14) (search))
-    (λ c. rw (below (λ i. families i .unary) 160 (c .match .rest) (c .before .pre))))
+    (λ c. rw (c .before .match .keys13) (search)) (λ c. rw (c .before .match .keys14) (search)) (λ c. rw (c .before .match .keys15) (search))
+    (λ c. rw (c .before .match .keys16) (search)) (λ c. rw (c .before .match .keys17) (search))
+    (λ c. rw (below (λ i. families i .unary) 128 (c .match .rest) (c .before .pre))))
