@@ -84,7 +84,7 @@ class Ending(NamedTuple):
 
 # What the list of instruction numbers says of an instruction that has a step: the document that gives it one. It tells the operands of document 01's; those
 # of an order's take so many vectors and give one.
-STEPS = {"document 01": None, "order 4": 2}
+STEPS = {"document 01": None, "order 4": 2, "order 14": 1}
 
 
 def read_instructions():
@@ -255,6 +255,33 @@ def chosen(N, choose, z1, z2):
     return choose(z1, z2, key=lambda z: place(N, z))
 
 
+def integral(N, direction, z):
+    """A float rounded to a whole number; the sign stays, of a result that is zero too."""
+    if is_nan(N, z):
+        return NAN[N]
+    if is_infinite(N, z):
+        return z
+    return rounded(N, is_negative(N, z), Fraction(abs(direction(exact(N, z)))))
+
+
+def cast(M, N, z):
+    """The number of a pattern of M bits, rounded to N bits."""
+    if is_nan(M, z):
+        return NAN[N]
+    if is_infinite(M, z):
+        return with_sign(N, is_negative(M, z), infinity(N))
+    return rounded(N, is_negative(M, z), size(M, z))
+
+
+def truncated(M, N, hold, z):
+    """A float of M bits cut toward zero and held to a range of N bits: "NaN gives 0" (order 14)."""
+    if is_nan(M, z):
+        return 0
+    if is_infinite(M, z):
+        return hold(N, -(2**N) if is_negative(M, z) else 2**N)
+    return hold(N, math.trunc(exact(M, z)))
+
+
 # What the instructions make of one lane of each source. `joined` takes the result modulo 2^N.
 INTEGER = {
     # "Add, subtract, multiply, negate, abs: modulo 2^w. Abs of −128 in 8 bits is −128."
@@ -309,6 +336,11 @@ FLOAT = {
     "div": fdiv,
     "min": lambda N, z1, z2: chosen(N, min, z1, z2),
     "max": lambda N, z1, z2: chosen(N, max, z1, z2),
+    # "ceil, floor, trunc and nearest" (order 14)
+    "ceil": lambda N, z: integral(N, math.ceil, z),
+    "floor": lambda N, z: integral(N, math.floor, z),
+    "trunc": lambda N, z: integral(N, math.trunc, z),
+    "nearest": lambda N, z: integral(N, round, z),
 }
 
 # "Shift: the count is taken modulo the lane width [by the caller]. shr_s is the floor of the signed lane over 2^count."
@@ -355,6 +387,21 @@ def from_other_width(N, action, M, sign, vectors):
     return products
 
 
+# An instruction that reads lanes of another format than it gives: the action, the width of the lanes that it reads, and the sign.
+OTHER_FORMAT = re.compile(r"(trunc_sat|convert|convert_low|demote|promote_low)_[if](\d+)x\d+(?:_([su]))?(?:_zero)?")
+
+
+def from_other_format(N, action, M, sign, vector):
+    """The lanes of N bits that come of lanes of M bits in another format (order 14). Where there are fewer, the upper ones are zero."""
+    taken = lanes(M, vector)[: 128 // N]
+    if action == "trunc_sat":
+        return [truncated(M, N, {"s": sat_s, "u": sat_u}[sign], z) for z in taken]
+    if action.startswith("convert"):
+        numbers = [signed(M, i) if sign == "s" else i for i in taken]
+        return [rounded(N, number < 0, Fraction(abs(number))) for number in numbers]
+    return [cast(M, N, z) for z in taken]
+
+
 def new_lanes(N, shape, operation, step, bits, vectors):
     """The lanes that an instruction gives, of a shape with lanes of N bits."""
     if operation == "splat":
@@ -378,6 +425,9 @@ def new_lanes(N, shape, operation, step, bits, vectors):
     other = OTHER_WIDTH.fullmatch(operation)
     if other:
         return from_other_width(N, other[1], int(other[2]), other[3], vectors)
+    other = OTHER_FORMAT.fullmatch(operation)
+    if other:
+        return from_other_format(N, other[1], int(other[2]), other[3], vectors[0])
     lane_operation = (FLOAT if shape[0] == "f" else INTEGER)[operation]
     return [lane_operation(N, *operands) for operands in zip(*(lanes(N, vector) for vector in vectors))]
 

@@ -34,6 +34,24 @@ wrappers! {
     f64x2_div(0, 1);
     f32x4_mul(0, 1);
     f64x2_mul(0, 1);
+    f32x4_ceil(0);
+    f64x2_ceil(0);
+    f32x4_floor(0);
+    f64x2_floor(0);
+    f32x4_trunc(0);
+    f64x2_trunc(0);
+    f32x4_nearest(0);
+    f64x2_nearest(0);
+    f32x4_convert_i32x4_s(0);
+    f32x4_convert_i32x4_u(0);
+    i32x4_trunc_sat_f32x4_s(0);
+    i32x4_trunc_sat_f32x4_u(0);
+    f64x2_convert_low_i32x4_s(0);
+    f64x2_convert_low_i32x4_u(0);
+    f64x2_promote_low_f32x4(0);
+    i32x4_trunc_sat_f64x2_s_zero(0);
+    i32x4_trunc_sat_f64x2_u_zero(0);
+    f32x4_demote_f64x2_zero(0);
 }
 
 fn next(state: &mut u64) -> u64 {

@@ -69,6 +69,11 @@ pub enum Shape {
     Binary(Lane),
     /// Two vectors of float lanes, with a rounded result.
     Arithmetic(Lane),
+    /// Lanes of one kind, from which lanes of another or rounded ones are made.
+    Converted {
+        reads: Lane,
+        gives: Lane,
+    },
     Select,
     Shift(Lane),
     Reduce(Lane),
@@ -80,7 +85,7 @@ impl Shape {
     /// The lanes of a result in which the standard leaves the bits of a NaN open.
     fn open_nans(self) -> Option<Lane> {
         match self {
-            Shape::Arithmetic(lane) => Some(lane),
+            Shape::Arithmetic(lane) | Shape::Converted { gives: lane, .. } => Some(lane),
             _ => None,
         }
     }
@@ -95,7 +100,7 @@ pub struct Entry {
 }
 
 /// What the list of functions says of those that are carried over: when they arrive.
-const CARRIED: [&str; 2] = ["base", "order 4"];
+const CARRIED: [&str; 3] = ["base", "order 4", "order 14"];
 
 /// A line of the list of functions.
 pub struct Listed {

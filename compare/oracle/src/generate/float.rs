@@ -1,9 +1,9 @@
-//! Requests for float arithmetic.
+//! Requests for float arithmetic, and for floats and integers that are converted or rounded.
 
-use super::Generator;
 use super::corners::{self, Lanes};
 use super::random::Random;
-use super::vectors::corner_pairs;
+use super::vectors::{corner_pairs, corner_places};
+use super::{Generator, RANDOM};
 use crate::table::Lane;
 
 /// Random pairs of lanes for each function of float arithmetic.
@@ -81,5 +81,35 @@ pub fn arithmetic(generator: &mut Generator, lane: Lane) {
     generator.section("random");
     for _ in 0..PAIRS / 2 / lane.count() {
         generator.add(|request, random| (request.a, request.b) = (lanes.vector(random), lanes.vector(random)));
+    }
+}
+
+/// A float whose whole part and fraction both have digits, or which is just above or below what an integer of 32 bits holds.
+fn middling(lane: Lane, random: &mut Random) -> u64 {
+    let (width, fraction) = format(lane);
+    let bias = (1_u64 << (width - fraction - 2)) - 1;
+    let bits = random.next();
+    let low = bits & ((1 << fraction) - 1);
+    let digits = match random.below(3) {
+        0 => low,
+        1 => low >> random.below(u64::from(fraction)) << random.below(u64::from(fraction)),
+        _ => (low >> random.below(u64::from(fraction))).wrapping_neg(),
+    };
+    (bits & (1 << (width - 1))) | ((bias - 3 + random.below(u64::from(fraction) + 8)) << fraction) | (digits & ((1 << fraction) - 1))
+}
+
+pub fn converted(generator: &mut Generator, lane: Lane) {
+    let float = lane.nan_and_infinity().is_some();
+    let lanes = if float { Lanes { lane, corners: rounding_corners(lane) } } else { Lanes::new(lane) };
+    corner_places(generator, &lanes);
+    if float {
+        generator.section("middling");
+        for _ in 0..RANDOM {
+            generator.add(|request, random| (0..lane.count()).for_each(|place| lanes.put(&mut request.a, place, middling(lane, random))));
+        }
+    }
+    generator.section("random");
+    for _ in 0..RANDOM {
+        generator.add(|request, random| request.a = lanes.vector(random));
     }
 }

@@ -73,6 +73,7 @@ pub fn function(number: u16, shape: Shape) -> Generator {
         Shape::Unary(lane) => vectors::unary(&mut generator, lane),
         Shape::Binary(lane) => vectors::binary(&mut generator, lane),
         Shape::Arithmetic(lane) => float::arithmetic(&mut generator, lane),
+        Shape::Converted { reads, .. } => float::converted(&mut generator, reads),
         Shape::Select => vectors::select(&mut generator),
         Shape::Shift(lane) => vectors::shift(&mut generator, lane),
         Shape::Reduce(lane) => vectors::reduce(&mut generator, lane),

@@ -20,7 +20,7 @@ pub fn corner_pairs(generator: &mut Generator, lanes: &Lanes) {
 }
 
 /// Every corner value in every place, the other lanes random.
-fn corner_places(generator: &mut Generator, lanes: &Lanes) {
+pub fn corner_places(generator: &mut Generator, lanes: &Lanes) {
     generator.section("corners");
     for corner in &lanes.corners {
         for place in 0..lanes.lane.count() {

@@ -1,5 +1,5 @@
-//! STAND-IN, not the original: `wasmi_core::wasm`. Float arithmetic by Rust's own operators, as the standard has it. Square roots, roundings and
-//! conversions are not carried over: no request reaches them.
+//! STAND-IN, not the original: `wasmi_core::wasm`. The operations on one float, by Rust's own operators, casts and library, as the standard has them. Square
+//! roots are not carried over: no request reaches them.
 
 macro_rules! arithmetic {
     ( $( $ty:ty: $min:ident $max:ident $add:ident $sub:ident $mul:ident $div:ident $sqrt:ident; )* ) => { $(
@@ -47,23 +47,41 @@ arithmetic! {
     f64: f64_min f64_max f64_add f64_sub f64_mul f64_div f64_sqrt;
 }
 
-macro_rules! not_here {
-    ( $( fn $name:ident( $( $arg:ty ),* ) -> $result:ty; )* ) => { $(
-        pub fn $name( $( _: $arg ),* ) -> $result {
-            unimplemented!("not carried over")
+macro_rules! roundings {
+    ( $( $ty:ty: $ceil:ident $floor:ident $trunc:ident $nearest:ident; )* ) => { $(
+        pub fn $ceil(x: $ty) -> $ty {
+            x.ceil()
+        }
+
+        pub fn $floor(x: $ty) -> $ty {
+            x.floor()
+        }
+
+        pub fn $trunc(x: $ty) -> $ty {
+            x.trunc()
+        }
+
+        pub fn $nearest(x: $ty) -> $ty {
+            x.round_ties_even()
         }
     )* };
 }
 
-not_here! {
-    fn f32_ceil(f32) -> f32;
-    fn f64_ceil(f64) -> f64;
-    fn f32_floor(f32) -> f32;
-    fn f64_floor(f64) -> f64;
-    fn f32_trunc(f32) -> f32;
-    fn f64_trunc(f64) -> f64;
-    fn f32_nearest(f32) -> f32;
-    fn f64_nearest(f64) -> f64;
+roundings! {
+    f32: f32_ceil f32_floor f32_trunc f32_nearest;
+    f64: f64_ceil f64_floor f64_trunc f64_nearest;
+}
+
+// Rust's casts: to a float the nearest, ties to even; to an integer toward zero, held to its range, a NaN as 0.
+macro_rules! casts {
+    ( $( fn $name:ident($from:ty) -> $to:ty; )* ) => { $(
+        pub fn $name(x: $from) -> $to {
+            x as $to
+        }
+    )* };
+}
+
+casts! {
     fn f32_demote_f64(f64) -> f32;
     fn f64_promote_f32(f32) -> f64;
     fn f32_convert_i32_s(i32) -> f32;

@@ -109,7 +109,7 @@ fn reason(instruction: &str) -> String {
     match instruction {
         "v128.const" => "v128.const: simd.rs has no function for it".to_string(),
         relaxed if relaxed.contains("relaxed") => "relaxed operations: not carried over".to_string(),
-        _ => "square roots, roundings and conversions of floats: not carried over".to_string(),
+        _ => "square roots: not carried over".to_string(),
     }
 }
 
