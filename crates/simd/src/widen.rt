@@ -313,7 +313,7 @@ impl V128 {
 
     // Over 32 places: over all 64, as in `binary32`, a real loop is left.
     pub fn i32x4_dot_i16x8_s(self, rhs: V128) -> V128
-        ensures { λ r. ⌜ number r ≡ dot (number self) (number rhs) ⌝ }
+        ensures { λ r. ⌜ number r ≡ dot 16 (number self) (number rhs) ⌝ }
     {
         let mut a = self.places32();
         let b = rhs.places32();

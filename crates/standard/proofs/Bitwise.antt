@@ -46,7 +46,7 @@ xor-bits =
     by-bits bitXor (λ i j. (i + j) % 2) refl
     (λ a b. xor-step a b ∙ ap (λ (k : ℕ). bitXor (a / 2) (b / 2) * 2 + k) (differ-is (a % 2) (b % 2) (mod-lt a (pow-pos 1)) (mod-lt b (pow-pos 1))))
 
-not-bits : (n a : ℕ) → a < 2 ^ n → (2 ^ n - 1) - a ≡ inot n a
+pub not-bits : (n a : ℕ) → a < 2 ^ n → (2 ^ n - 1) - a ≡ inot n a
 unfolding inot
 not-bits zero a h = omega (arith, lt-one h)
 not-bits (suc n) a h =

@@ -33,12 +33,12 @@ all-elements [] (suc n) e = absurd (suc-ne-zero n (sym e))
 all-elements (x ∷ xs) zero e = absurd (suc-ne-zero (length xs) e)
 all-elements (x ∷ xs) (suc n) e = ap (λ (r : List ℕ). x ∷ r) (tail-elements x xs 0 n ∙ all-elements xs n (suc-inj e))
 
-length-zip : (f : ℕ → ℕ → ℕ) (xs ys : List ℕ) → length xs ≡ length ys → length (zip f xs ys) ≡ length xs
+pub length-zip : (f : ℕ → ℕ → ℕ) (xs ys : List ℕ) → length xs ≡ length ys → length (zip f xs ys) ≡ length xs
 length-zip f [] ys e = refl
 length-zip f (x ∷ xs) [] e = absurd (suc-ne-zero (length xs) e)
 length-zip f (x ∷ xs) (y ∷ ys) e = ap suc (length-zip f xs ys (suc-inj e))
 
-zip-append : (f : ℕ → ℕ → ℕ) (xs ys us vs : List ℕ) → length xs ≡ length ys → zip f (xs ++ us) (ys ++ vs) ≡ zip f xs ys ++ zip f us vs
+pub zip-append : (f : ℕ → ℕ → ℕ) (xs ys us vs : List ℕ) → length xs ≡ length ys → zip f (xs ++ us) (ys ++ vs) ≡ zip f xs ys ++ zip f us vs
 zip-append f [] [] us vs e = refl
 zip-append f [] (y ∷ ys) us vs e = absurd (suc-ne-zero (length ys) (sym e))
 zip-append f (x ∷ xs) [] us vs e = absurd (suc-ne-zero (length xs) e)

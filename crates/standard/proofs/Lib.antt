@@ -10,5 +10,6 @@ pub mod Numbers
 pub mod Pairs
 pub mod Rearrange
 pub mod Reduce
+pub mod Relaxed
 pub mod Shortfalls
 pub mod Widths

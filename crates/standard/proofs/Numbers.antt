@@ -25,7 +25,7 @@ q15 a b = signed 16 (iq15mulrsat-s 16 (i16 a) (i16 b))
 -- lane 0 of the dot of vectors whose lanes are all the same
 dots : ℤ → ℤ → ℤ
 unfolding i16 dot splat extract
-dots a b = signed 32 (extract 32 (dot (splat 16 (i16 a)) (splat 16 (i16 b))) 0)
+dots a b = signed 32 (extract 32 (dot 16 (splat 16 (i16 a)) (splat 16 (i16 b))) 0)
 
 -- lane i of an i8x16 subtraction from zero of the vector whose lane 0 is 1
 borrowing : ℕ → ℤ

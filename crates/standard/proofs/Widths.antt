@@ -14,7 +14,7 @@ use lib.ListN.{length, length-append, length-map}
 use lib.Pow.{pow-pos, pow-mono, shr-mod}
 use lib.Seq.{take-at, drop-at}
 use Rattle.standard.specs.Lanes.{digits, joined, lanes, zip, binary, lowHalf, highHalf}
-use Rattle.standard.specs.Integer.{signed, modulo, sat-u, imul, extend-u, extend-s, narrow-u, narrow-s}
+use Rattle.standard.specs.Integer.{signed, modulo, sat-u, sat-s, imul, extend-u, extend-s, narrow-u, narrow-s}
 use Rattle.standard.specs.Vector.{extend, extmul, narrow, widen}
 use Rattle.standard.proofs.Digits.{Below, digits-below, length-digits, low-digit, joined-lt, lanes-joined}
 use Rattle.standard.proofs.Halves.{lanes-halves, joined-halves, map-append}
@@ -80,14 +80,17 @@ narrow-u-lt m w a = fits (signed m a)
     fits (pos i) = rw (le-ltb i 0 (omega arith)) (held i (ltb (2 ^ w - 1) i) refl)
     fits (negsuc i) = pow-pos w
 
-pub narrow-s-lt : (m w a : ℕ) → narrow-s m w a < 2 ^ w
-narrow-s-lt m w a = modulo-lt w (cond (ltZ (signed m a) low) low (cond (ltZ high (signed m a)) high (signed m a)))
+pub sat-s-lt : (w : ℕ) (z : ℤ) → sat-s w z < 2 ^ w
+sat-s-lt w z = modulo-lt w (cond (ltZ z low) low (cond (ltZ high z) high z))
   where
     low : ℤ
     low = negsuc (2 ^ (w - 1) - 1)
 
     high : ℤ
     high = pos (2 ^ (w - 1) - 1)
+
+pub narrow-s-lt : (m w a : ℕ) → narrow-s m w a < 2 ^ w
+narrow-s-lt m w a = sat-s-lt w (signed m a)
 
 -- the low half of a vector whose low lanes are these, whatever the others
 pub low-lanes : (w n : ℕ) → w * n ≡ 64 → (f : ℕ → ℕ) → ((a : ℕ) → f a < 2 ^ w) → (xs ys : List ℕ) → length xs ≡ n

@@ -420,7 +420,7 @@ table =
     -- 185 i32x4.max_u
     vector₂ (binary 32 (imax-u 32)) ∷
     -- 186 i32x4.dot_i16x8_s
-    vector₂ dot ∷
+    vector₂ (dot 16) ∷
     -- 187 no instruction
     none ∷
     -- 188 i32x4.extmul_low_i16x8_s

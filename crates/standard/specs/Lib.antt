@@ -6,6 +6,7 @@ pub mod Integer
 pub mod Float
 pub mod Convert
 pub mod Vector
+pub mod Relaxed
 pub mod Memory
 pub mod Instruction
 pub mod Refusal

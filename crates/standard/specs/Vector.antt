@@ -21,9 +21,10 @@ extmul half sx w x y =
 unfoldable pub extadd-pairwise : (ℕ → ℕ → ℕ → ℕ) → ℕ → ℕ → ℕ
 extadd-pairwise sx w x = joined (2 * w) (pairwise (iadd (2 * w)) (map (sx w (2 * w)) (lanes w x)))
 
--- i32x4.dot_i16x8_s: lane i is x(2i)·y(2i) + x(2i+1)·y(2i+1) of the signed lanes, modulo 2^32.
-unfoldable pub dot : ℕ → ℕ → ℕ
-dot x y = joined 32 (pairwise (iadd 32) (zip (imul 32) (map (extend-s 16 32) (lanes 16 x)) (map (extend-s 16 32) (lanes 16 y))))
+-- shape.dot_s from lanes of width w: lane i is x(2i)·y(2i) + x(2i+1)·y(2i+1) of the signed lanes, modulo 2^(2w).
+unfoldable pub dot : ℕ → ℕ → ℕ → ℕ
+dot w x y =
+    joined (2 * w) (pairwise (iadd (2 * w)) (zip (imul (2 * w)) (map (extend-s w (2 * w)) (lanes w x)) (map (extend-s w (2 * w)) (lanes w y))))
 
 -- shape.narrow_sx to lanes of width w: `sx` is narrow-u or narrow-s. The first vector gives the low lanes.
 unfoldable pub narrow : (ℕ → ℕ → ℕ → ℕ) → ℕ → ℕ → ℕ → ℕ

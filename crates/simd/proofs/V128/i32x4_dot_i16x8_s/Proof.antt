@@ -3,7 +3,7 @@ use borrow.Author.Needs.{needs}
 use Prim.Native.Nat.{_≤_, _-_}
 use mathlib.Core.Path.{_≡_, refl, _∙_}
 use Rattle.lanewise.specs.Lanewise.{binaries32, binary-of}
-use Rattle.standard.proofs.Pairs.{dot-pairs}
+use Rattle.standard.proofs.Pairs.{dot-16}
 use Rattle.standard.proofs.Loop.{zipTo, turn, done}
 use Rattle.simd.proofs.V128.i32x4_dot_i16x8_s.Statement.{statement}
 use Rattle.simd.proofs.V128.i32x4_dot_i16x8_s.Tie as tie
@@ -57,7 +57,7 @@ from-places32-requires : tie.Need-from-places32-requires Inv-loop μ-loop
 from-places32-requires c κs = search needs
 
 returns : tie.Need-returns Inv-loop μ-loop
-returns c = c .from-places32 .ensures ∙ done 32 60 _ _ _ (c .before .before .before .before .places32 .ensures) (c .before .before .before .places322 .ensures) (c .before .before .loop .i) (search needs) (c .before .before .loop .inv .1) ∙ dot-pairs _ _
+returns c = c .from-places32 .ensures ∙ done 32 60 _ _ _ (c .before .before .before .before .places32 .ensures) (c .before .before .before .places322 .ensures) (c .before .before .loop .i) (search needs) (c .before .before .loop .inv .1) ∙ dot-16 _ _
 
 pub i32x4-dot-i16x8-s-spec : {M : Type 1} → statement M
 i32x4-dot-i16x8-s-spec = tie.close (tie.spec Inv-loop μ-loop places32-requires places32-requires-2 loop-holds mul-binary32 array-read-binary32 mul-binary32-2 array-read-binary32-2 binary32-requires mul-a array-write-a add-i loop-less loop-again from-places32-requires returns)
