@@ -63,8 +63,9 @@ inside kss x lo n {op} e p l u =
     sym (getD-replicate n (op - lo) x Shape.None k) ∙ ap (λ (xs : List Shape). getD xs (op - lo) Shape.None) (sym e)
     ∙ rest-at kss x lo (op - lo) (take n (drop lo shapes)) q p ∙ rw (getD-take, getD-drop, q) (shape-at op)
 
--- from lo to the table's end, and past it
-pub onward : (lo n op : ℕ) → drop lo shapes ≡ replicate n Shape.None → lo ≤ op → Shape.None ≡ shape (instruction op)
-onward lo n op e l =
+-- from lo to the table's end, and past it, but for the single numbers
+pub onward : (kss : List (List ℕ)) (lo n : ℕ) {op : ℕ} → rest-of kss Shape.None lo (drop lo shapes) ≡ replicate n Shape.None → Past kss op → lo ≤ op → Shape.None ≡ shape (instruction op)
+onward kss lo n {op} e p l =
     let q : lo + (op - lo) ≡ op = omega arith in
-    sym (alike Shape.None n (op - lo)) ∙ ap (λ (xs : List Shape). getD xs (op - lo) Shape.None) (sym e) ∙ rw (getD-drop, q) (shape-at op)
+    sym (alike Shape.None n (op - lo)) ∙ ap (λ (xs : List Shape). getD xs (op - lo) Shape.None) (sym e)
+    ∙ rest-at kss Shape.None lo (op - lo) (drop lo shapes) q p ∙ rw (getD-drop, q) (shape-at op)

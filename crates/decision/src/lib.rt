@@ -47,12 +47,13 @@ pub fn decide(operation: u16) -> Shape
         | 236
         | 237
         | 248..=255 => Shape::Unary,
-        82 => Shape::Ternary,
+        82 | 265..=268 | 275 => Shape::Ternary,
         14 | 35..=76 | 78..=81 => Shape::Binary,
         101 | 102 | 110..=115 | 118..=121 | 123 => Shape::Binary,
         130 | 133 | 134 | 142..=147 | 149..=153 | 155..=159 => Shape::Binary,
         174 | 177 | 181..=186 | 188..=191 => Shape::Binary,
         206 | 209 | 213..=223 | 228..=235 | 240..=247 => Shape::Binary,
+        256 | 269..=274 => Shape::Binary,
         _ => Shape::None,
     }
 }

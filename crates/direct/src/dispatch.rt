@@ -12,6 +12,7 @@ use crate::memory;
 use crate::packed;
 use crate::rearrange;
 use crate::reduce;
+use crate::relaxed;
 use crate::request;
 use crate::request::Request;
 use crate::shift;
@@ -51,6 +52,7 @@ fn plain(r: Request, indices: [u8; 16]) -> Answer {
         184..=195 => shift::shift(f, a, r.count),
         196..=199 | 212 => widen::narrow_or_dot(f, a, b),
         203..=211 => reduce::reduce(f, a),
+        213..=214 | 272..=281 => relaxed::relaxed(f, a, b, c),
         232..=233 | 254..=259 => widen::widen_bits(f, r.scalar),
         _ => Answer::none(),
     }

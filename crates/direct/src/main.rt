@@ -15,6 +15,7 @@ mod memory;
 mod packed;
 mod rearrange;
 mod reduce;
+mod relaxed;
 mod request;
 mod shift;
 mod splat;

@@ -26,6 +26,9 @@ unaries16 count = unaries 16 count ++ pair-sum extend-s 8 ∷ pair-sum extend-u 
 abbrev pub unaries32 : ℕ → List (ℕ → ℕ)
 unaries32 count = unaries 32 count ++ pair-sum extend-s 16 ∷ pair-sum extend-u 16 ∷ []
 
+abbrev pub binaries16 : List (ℕ → ℕ → ℕ)
+binaries16 = binaries 16 ++ pair-product 8 ∷ []
+
 abbrev pub binaries32 : List (ℕ → ℕ → ℕ)
 binaries32 = take 17 (binaries 32) ++ pair-product 16 ∷ []
 

@@ -5,10 +5,11 @@ pub mod float;
 ghost use mathlib.Core.Path.{_≡_};
 ghost use mathlib.Core.Bool.{cond};
 ghost use lib.ListN.{take};
-ghost use Rattle.lanewise.specs.Lanewise.{unaries, unaries8, unaries16, unaries32, binaries, binaries32, unary-of, binary-of};
+ghost use Rattle.lanewise.specs.Lanewise.{unaries, unaries8, unaries16, unaries32, binaries, binaries16, binaries32, unary-of, binary-of};
 use lane::arithmetic::*;
 use lane::compare::*;
 use lane::shift::*;
+use relaxed::dot16;
 use wide_lane::saturate::*;
 use wide_lane::widen::*;
 
@@ -74,6 +75,8 @@ pub const SUB_SAT_U: u8 = 20;
 pub const AVGR_U: u8 = 21;
 
 pub const Q15MULR_SAT_S: u8 = 22;
+// Of 16 bits only.
+pub const RELAXED_DOT: u8 = 23;
 // Of 32 bits only.
 pub const DOT: u8 = 17;
 
@@ -193,7 +196,7 @@ pub fn binary8(op: u8, a: u8, b: u8) -> u8
 }
 
 pub fn binary16(op: u8, a: u16, b: u16) -> u16
-    ensures { λ r. ⌜ r ≡ binary-of (binaries 16) op a b ⌝ }
+    ensures { λ r. ⌜ r ≡ binary-of binaries16 op a b ⌝ }
 {
     match op {
         ADD => std::num::wrapping_add_u16(a, b),
@@ -219,6 +222,7 @@ pub fn binary16(op: u8, a: u16, b: u16) -> u16
         SUB_SAT_U => sub_sat_u16(a, b),
         AVGR_U => avgr_u16(a, b),
         Q15MULR_SAT_S => q15mulr_sat_s16(a, b),
+        RELAXED_DOT => dot16(a, b),
         _ => 0,
     }
 }

@@ -17,7 +17,8 @@ pub fn binary(op: u16, a: V128, b: V128) -> V128
         130..=159 => i16x8(op, a, b),
         160..=191 => i32x4(op, a, b),
         192..=223 => i64x2(op, a, b),
-        _ => floats(op, a, b),
+        224..=255 => floats(op, a, b),
+        _ => relaxed(op, a, b),
     }
 }
 
@@ -187,7 +188,7 @@ fn i64x2(op: u16, a: V128, b: V128) -> V128
 
 // f32x4 and f64x2.
 fn floats(op: u16, a: V128, b: V128) -> V128
-    requires { ⌜ 224 ≤ op ⌝ }
+    requires { ⌜ (224 ≤ op) × (op < 256) ⌝ }
     ensures { λ r. ⌜ number r ≡ as-binary (instruction op) (number a) (number b) ⌝ }
 {
     match op {
@@ -207,6 +208,23 @@ fn floats(op: u16, a: V128, b: V128) -> V128
         245 => a.f64x2_max(b),
         246 => a.f64x2_pmin(b),
         247 => a.f64x2_pmax(b),
+        _ => a,
+    }
+}
+
+// The relaxed instructions.
+fn relaxed(op: u16, a: V128, b: V128) -> V128
+    requires { ⌜ 256 ≤ op ⌝ }
+    ensures { λ r. ⌜ number r ≡ as-binary (instruction op) (number a) (number b) ⌝ }
+{
+    match op {
+        256 => a.i8x16_relaxed_swizzle(b),
+        269 => a.f32x4_relaxed_min(b),
+        270 => a.f32x4_relaxed_max(b),
+        271 => a.f64x2_relaxed_min(b),
+        272 => a.f64x2_relaxed_max(b),
+        273 => a.i16x8_relaxed_q15mulr_s(b),
+        274 => a.i16x8_relaxed_dot_i8x16_i7x16_s(b),
         _ => a,
     }
 }

@@ -11,6 +11,11 @@ pub fn ternary(op: u16, a: V128, b: V128, c: V128) -> V128
 {
     match op {
         82 => a.v128_bitselect(b, c),
+        265 => a.i8x16_relaxed_laneselect(b, c),
+        266 => a.i16x8_relaxed_laneselect(b, c),
+        267 => a.i32x4_relaxed_laneselect(b, c),
+        268 => a.i64x2_relaxed_laneselect(b, c),
+        275 => a.i32x4_relaxed_dot_i8x16_i7x16_add_s(b, c),
         _ => a,
     }
 }

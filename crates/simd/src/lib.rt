@@ -9,6 +9,7 @@ pub mod extract;
 pub mod float;
 pub mod rearrange;
 pub mod reduce;
+pub mod relaxed;
 pub mod replace;
 pub mod shift;
 pub mod splat;
@@ -22,14 +23,15 @@ ghost use lib.ListN.{take, replicate};
 ghost use Rattle.standard.specs.Lanes.{digits, joined, lanes, unary, binary, splat, extract, replace};
 ghost use Rattle.standard.specs.Refusal.{at-lane};
 ghost use Rattle.float_arithmetic.specs.Choose.{arithmetic-of};
-ghost use Rattle.lanewise.specs.Lanewise.{unaries, unaries8, unaries16, unaries32, binaries, binaries32, unary-of, binary-of};
+ghost use Rattle.lanewise.specs.Lanewise.{unaries, unaries8, unaries16, unaries32, binaries, binaries16, binaries32, unary-of, binary-of};
 ghost use Rattle.lanewise.specs.LanewiseFloat.{float-unary-of, float-binary-of};
 ghost use Rattle.simd.specs.Number.{number};
 ghost use Rattle.simd.specs.Answer.{vector-answer};
 use answer::LANE;
 use answer::VectorAnswer;
 
-// The 128 bits of a vector, low half first: byte 0 is the low byte of `lo`.
+// The 128 bits of a vector, low half first: byte 0 is the low byte of `lo`. Its layout is C's, so that another language can hand one over.
+#[repr(C)]
 pub struct V128 {
     pub lo: u64,
     pub hi: u64,
@@ -250,7 +252,7 @@ impl V128 {
     }
 
     fn binary16(self, rhs: V128, op: u8) -> V128
-        ensures { λ r. ⌜ number r ≡ binary 16 (binary-of (binaries 16) op) (number self) (number rhs) ⌝ }
+        ensures { λ r. ⌜ number r ≡ binary 16 (binary-of binaries16 op) (number self) (number rhs) ⌝ }
     {
         let mut a = self.places16();
         let b = rhs.places16();

@@ -8,6 +8,7 @@ use Rattle.standard.specs.Integer.{iadd, isub, imul, ineg, iabs, ipopcnt
 use Rattle.standard.specs.Float.{feq, fne, flt, fgt, fle, fge, fneg, fabs, fpmin, fpmax, fadd, fsub, fmul, fdiv, fmin, fmax}
 use Rattle.standard.specs.Convert.{fceil, ffloor, ftrunc, fnearest, demote, promote, convert-u, convert-s, trunc-sat-u, trunc-sat-s}
 use Rattle.standard.specs.Vector.{extend, extmul, extadd-pairwise, dot, narrow, convert-low, convert-zero, swizzle, any-true, all-true, bitmask}
+use Rattle.standard.specs.Relaxed.{relaxed-swizzle, relaxed-laneselect, relaxed-q15mulr, relaxed-min, relaxed-max, relaxed-dot, relaxed-dot-add}
 
 -- The kinds of a scalar, and a number for each, by which two are told apart.
 pub data Kind : Type 0 where
@@ -560,7 +561,7 @@ table =
     -- 255 f64x2.convert_low_i32x4_u
     vector₁ (convert-low (convert-u binary64)) ∷
     -- 256 i8x16.relaxed_swizzle
-    none ∷
+    vector₂ relaxed-swizzle ∷
     -- 257 i32x4.relaxed_trunc_f32x4_s
     none ∷
     -- 258 i32x4.relaxed_trunc_f32x4_u
@@ -578,27 +579,27 @@ table =
     -- 264 f64x2.relaxed_nmadd
     none ∷
     -- 265 i8x16.relaxed_laneselect
-    none ∷
+    vector₃ relaxed-laneselect ∷
     -- 266 i16x8.relaxed_laneselect
-    none ∷
+    vector₃ relaxed-laneselect ∷
     -- 267 i32x4.relaxed_laneselect
-    none ∷
+    vector₃ relaxed-laneselect ∷
     -- 268 i64x2.relaxed_laneselect
-    none ∷
+    vector₃ relaxed-laneselect ∷
     -- 269 f32x4.relaxed_min
-    none ∷
+    vector₂ (relaxed-min binary32) ∷
     -- 270 f32x4.relaxed_max
-    none ∷
+    vector₂ (relaxed-max binary32) ∷
     -- 271 f64x2.relaxed_min
-    none ∷
+    vector₂ (relaxed-min binary64) ∷
     -- 272 f64x2.relaxed_max
-    none ∷
+    vector₂ (relaxed-max binary64) ∷
     -- 273 i16x8.relaxed_q15mulr_s
-    none ∷
+    vector₂ relaxed-q15mulr ∷
     -- 274 i16x8.relaxed_dot_i8x16_i7x16_s
-    none ∷
+    vector₂ relaxed-dot ∷
     -- 275 i32x4.relaxed_dot_i8x16_i7x16_add_s
-    none ∷ []
+    vector₃ relaxed-dot-add ∷ []
 
 -- The instruction of a number.
 unfoldable pub instruction : ℕ → Instruction

@@ -1,9 +1,8 @@
 -- `operation::binary::floats` meets its contract: each arm by its method's promise, at the number that led there. Assumes nothing.
-use mathlib.Core.Path.{refl}
 use Rattle.standard.specs.Instruction.{table, instruction}
 use Rattle.operation.specs.Family.{families}
 use Rattle.operation.proofs.Calls.{nothing}
-use Rattle.operation.proofs.Others.{from}
+use Rattle.operation.proofs.Others.{between}
 use Rattle.operation.proofs.binary.floats.Statement.{statement}
 use Rattle.operation.proofs.binary.floats.Tie as tie
 
@@ -19,4 +18,4 @@ floats-spec =
     (λ c. rw (c .before .match .keys10) (search)) (λ c. rw (c .before .match .keys11) (search)) (λ c. rw (c .before .match .keys12) (search))
     (λ c. rw (c .before .match .keys13) (search)) (λ c. rw (c .before .match .keys14) (search)) (λ c. rw (c .before .match .keys15) (search))
     (λ c. rw (c .before .match .keys16) (search))
-    (λ c. rw (from (λ i. families i .binary) 224 refl (c .match .rest) (c .before .pre))))
+    (λ c. rw (between (λ i. families i .binary) 224 32 (c .match .rest) (c .before .pre))))

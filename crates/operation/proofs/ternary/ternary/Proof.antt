@@ -12,6 +12,7 @@ unfolding instruction table
 ternary-spec =
     tie.close
     (tie.spec
-    nothing
-    (λ c. rw (c .before .match .keys1) (search))
+    nothing nothing nothing nothing nothing nothing
+    (λ c. rw (c .before .match .keys1) (search)) (λ c. rw (c .before .match .keys2) (search)) (λ c. rw (c .before .match .keys3) (search))
+    (λ c. rw (c .before .match .keys4) (search)) (λ c. rw (c .before .match .keys5) (search)) (λ c. rw (c .before .match .keys6) (search))
     (λ c. rw (any (λ i. families i .ternary) _ refl (c .match .rest))))

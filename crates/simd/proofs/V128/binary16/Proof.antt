@@ -2,13 +2,13 @@
 use borrow.Author.Needs.{needs}
 use Prim.Native.Nat.{_≤_, _-_}
 use mathlib.Core.Path.{_≡_, refl, _∙_}
-use Rattle.lanewise.specs.Lanewise.{binaries, binary-of}
+use Rattle.lanewise.specs.Lanewise.{binaries16, binary-of}
 use Rattle.standard.proofs.Loop.{zipTo, turn, done}
 use Rattle.simd.proofs.V128.binary16.Statement.{statement}
 use Rattle.simd.proofs.V128.binary16.Tie as tie
 
 abbrev Inv-loop : tie.InvT-loop
-Inv-loop op a₀ b i₀ a i = (i ≤ 64) × (a ≡ zipTo (binary-of (binaries 16) op) i a₀ b)
+Inv-loop op a₀ b i₀ a i = (i ≤ 64) × (a ≡ zipTo (binary-of binaries16 op) i a₀ b)
 
 abbrev μ-loop : tie.MeasureT-loop
 μ-loop op a₀ b i₀ a i = 64 - i
