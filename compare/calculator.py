@@ -84,7 +84,10 @@ class Ending(NamedTuple):
 
 # What the list of instruction numbers says of an instruction that has a step: the document that gives it one. It tells the operands of document 01's; those
 # of an order's take so many vectors and give one.
-STEPS = {"document 01": None, "order 4": 2, "order 14": 1}
+STEPS = {"document 01": None, "order 4": 2, "order 11": 2, "order 14": 1}
+
+# "laneselect (as bitselect)" has a mask, and the second of "both dots" adds a third vector (order 11).
+THREE_SOURCES = re.compile(r".*\.relaxed_(laneselect|dot_i8x16_i7x16_add_s)")
 
 
 def read_instructions():
@@ -100,6 +103,8 @@ def read_instructions():
 
 def instruction_of(row):
     sources = STEPS[row["calculator step"]]
+    if THREE_SOURCES.fullmatch(row["name"]):
+        sources = 3
     if sources is not None:
         return Instruction(int(row["number"]), row["name"], sources, 256, "-", False, "vector")
     return Instruction(
@@ -402,8 +407,19 @@ def from_other_format(N, action, M, sign, vector):
     return [cast(M, N, z) for z in taken]
 
 
+# "each as the Rust chooses: the plain operation" (order 11)
+PLAIN = {"relaxed_swizzle": "swizzle", "relaxed_q15mulr_s": "q15mulr_sat_s", "relaxed_min": "min", "relaxed_max": "max"}
+
+
+def relaxed_dot(a, b):
+    """The signed 16-bit lanes of a relaxed dot: "signed bytes with sums modulo 2^16" (order 11)."""
+    products = [signed(8, i1) * signed(8, i2) for i1, i2 in zip(lanes(8, a), lanes(8, b))]
+    return [signed(16, (low + high) % 2**16) for low, high in zip(products[0::2], products[1::2])]
+
+
 def new_lanes(N, shape, operation, step, bits, vectors):
     """The lanes that an instruction gives, of a shape with lanes of N bits."""
+    operation = PLAIN.get(operation, operation)
     if operation == "splat":
         # "For 8- and 16-bit lanes the low bits of an i32 are used."
         return [bits] * (128 // N)
@@ -419,6 +435,14 @@ def new_lanes(N, shape, operation, step, bits, vectors):
         # "Swizzle: an index of 16 to 255 gives 0."
         padded = lanes(8, vectors[0]) + [0] * 240
         return [padded[index] for index in lanes(8, vectors[1])]
+    if operation == "relaxed_laneselect":
+        # "laneselect (as bitselect)" (order 11)
+        return lanes(N, WHOLE["bitselect"](*vectors))
+    if operation == "relaxed_dot_i8x16_i7x16_s":
+        return relaxed_dot(*vectors)
+    if operation == "relaxed_dot_i8x16_i7x16_add_s":
+        sums = relaxed_dot(*vectors[:2])
+        return [low + high + i for low, high, i in zip(sums[0::2], sums[1::2], lanes(32, vectors[2]))]
     if operation in SHIFT:
         # "shift steps take [the count] from the scalar, read as unsigned 32 bits" (order 2)
         return [SHIFT[operation](N, i, bits % N) for i in lanes(N, vectors[0])]

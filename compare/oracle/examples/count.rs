@@ -5,8 +5,8 @@ use std::hint::black_box;
 
 const CALLS: usize = 1000;
 
-/// Two vectors, and the place of the result.
-type Place = [[u8; 16]; 3];
+/// Three vectors, and the place of the result.
+type Place = [[u8; 16]; 4];
 
 fn empty(_: &mut Place) {}
 
@@ -14,7 +14,7 @@ macro_rules! wrappers {
     ( $( $name:ident($( $operand:literal ),*); )* ) => {
         $( #[inline(never)]
         fn $name(place: &mut Place) {
-            place[2] = simd::$name($( V128::from(place[$operand]) ),*).bytes();
+            place[3] = simd::$name($( V128::from(place[$operand]) ),*).bytes();
         } )*
 
         const FORMS: &[(&str, fn(&mut Place))] = &[("empty", empty), $( (stringify!($name), $name) ),*];
@@ -52,6 +52,8 @@ wrappers! {
     i32x4_trunc_sat_f64x2_s_zero(0);
     i32x4_trunc_sat_f64x2_u_zero(0);
     f32x4_demote_f64x2_zero(0);
+    i16x8_relaxed_dot_i8x16_i7x16_s(0, 1);
+    i32x4_relaxed_dot_i8x16_i7x16_add_s(0, 1, 2);
 }
 
 fn next(state: &mut u64) -> u64 {
@@ -70,7 +72,7 @@ fn main() {
     let form: fn(&mut Place) = black_box(FORMS[chosen.parse::<usize>().expect("a number")].1);
     let mut state = 0x9e37_79b9_7f4a_7c15;
     let mut vector = || (u128::from(next(&mut state)) | u128::from(next(&mut state)) << 64).to_le_bytes();
-    let mut places: Vec<Place> = (0..CALLS).map(|_| [vector(), vector(), [0; 16]]).collect();
+    let mut places: Vec<Place> = (0..CALLS).map(|_| [vector(), vector(), vector(), [0; 16]]).collect();
     places.iter_mut().for_each(form);
     black_box(places);
 }

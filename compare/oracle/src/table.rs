@@ -75,6 +75,8 @@ pub enum Shape {
         gives: Lane,
     },
     Select,
+    /// Two vectors of byte lanes, multiplied and added in pairs, and lanes of 32 bits that may be added.
+    Dot,
     Shift(Lane),
     Reduce(Lane),
     Bits,
@@ -100,7 +102,7 @@ pub struct Entry {
 }
 
 /// What the list of functions says of those that are carried over: when they arrive.
-const CARRIED: [&str; 3] = ["base", "order 4", "order 14"];
+const CARRIED: [&str; 4] = ["base", "order 4", "order 11", "order 14"];
 
 /// A line of the list of functions.
 pub struct Listed {

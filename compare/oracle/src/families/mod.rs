@@ -22,6 +22,7 @@ mod lanes;
 mod lanewise;
 mod memory;
 mod reduce;
+mod relaxed;
 mod widen;
 
 use crate::TrapCode;
@@ -31,7 +32,8 @@ use crate::wire::{ACCESS_REFUSED, LANE_REFUSED};
 
 /// Every call there is.
 pub fn all() -> Vec<Entry> {
-    [lanes::entries(), lanewise::entries(), float::entries(), widen::entries(), reduce::entries(), memory::entries()].concat()
+    [lanes::entries(), lanewise::entries(), float::entries(), widen::entries(), reduce::entries(), relaxed::entries(), memory::entries()]
+        .concat()
 }
 
 /// The lane of a request, made as the Rust makes it.

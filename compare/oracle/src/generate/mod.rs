@@ -75,6 +75,7 @@ pub fn function(number: u16, shape: Shape) -> Generator {
         Shape::Arithmetic(lane) => float::arithmetic(&mut generator, lane),
         Shape::Converted { reads, .. } => float::converted(&mut generator, reads),
         Shape::Select => vectors::select(&mut generator),
+        Shape::Dot => vectors::dot(&mut generator),
         Shape::Shift(lane) => vectors::shift(&mut generator, lane),
         Shape::Reduce(lane) => vectors::reduce(&mut generator, lane),
         Shape::Bits => lanes::bits(&mut generator),

@@ -87,6 +87,40 @@ pub fn binary(generator: &mut Generator, lane: Lane) {
     }
 }
 
+/// Bytes at the ends of their ranges, read as signed, as unsigned and as 7 bits.
+const ENDS: [u8; 6] = [0, 1, 127, 128, 129, 255];
+
+/// The two bytes of a 16-bit lane and the two that they are multiplied with: every choice of ends, in every place.
+fn every_four(generator: &mut Generator) {
+    generator.section("fours");
+    let lanes = Lanes::new(Lane::I32);
+    let choices = ENDS.len().pow(4);
+    for first in 0..choices {
+        generator.add(|request, random| {
+            for place in 0..8 {
+                let four = [1, 6, 36, 216].map(|part| ENDS[(first + place * 517) % choices / part % 6]);
+                (request.a[2 * place], request.a[2 * place + 1]) = (four[0], four[1]);
+                (request.b[2 * place], request.b[2 * place + 1]) = (four[2], four[3]);
+            }
+            request.c = lanes.vector(random);
+        });
+    }
+}
+
+pub fn dot(generator: &mut Generator) {
+    every_four(generator);
+    byte_pairs(generator);
+    generator.section("random");
+    let (bytes, sums) = (Lanes::new(Lane::I8), Lanes::new(Lane::I32));
+    for _ in 0..RANDOM {
+        generator.add(|request, random| {
+            request.a = bytes.vector(random);
+            request.b = bytes.near_vector(&request.a, random);
+            request.c = sums.vector(random);
+        });
+    }
+}
+
 pub fn select(generator: &mut Generator) {
     let lanes = Lanes::new(Lane::I8);
     generator.section("bits");

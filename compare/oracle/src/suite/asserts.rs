@@ -80,10 +80,17 @@ fn set_memory(record: &mut Record, access: Access, columns: &[&str]) -> Option<(
     Some(())
 }
 
-/// The record of a row.
+/// The record of a row. Of the results that a relaxed instruction's row allows it has the one that the Rust gives, or the first where that is none of them.
 fn record(number: u16, columns: &[&str]) -> Option<Record> {
+    let allowed: Vec<Record> = columns[9].split('|').map(|result| record_with(number, columns, result)).collect::<Option<_>>()?;
+    let given = allowed.iter().find(|record| record.agrees(&table::answer(&record.request)));
+    given.or(allowed.first()).copied()
+}
+
+/// The record of a row with one of its results.
+fn record_with(number: u16, columns: &[&str], result: &str) -> Option<Record> {
     let entry = table::entry(number).expect("a function");
-    let (expected, mask) = result::expected(columns[9], entry.name.ends_with("_true"));
+    let (expected, mask) = result::expected(result, entry.name.ends_with("_true"));
     let mut record = Record { set: 1, request: request(number, entry.shape, columns), expected, mask };
     if let Shape::Memory(access) = entry.shape {
         set_memory(&mut record, access, columns)?;
@@ -108,7 +115,7 @@ fn through_at(record: &Record, at: u16) -> Record {
 fn reason(instruction: &str) -> String {
     match instruction {
         "v128.const" => "v128.const: simd.rs has no function for it".to_string(),
-        relaxed if relaxed.contains("relaxed") => "relaxed operations: not carried over".to_string(),
+        relaxed if relaxed.contains("relaxed") => "relaxed multiply-adds and truncations: not carried over".to_string(),
         _ => "square roots: not carried over".to_string(),
     }
 }
