@@ -1,0 +1,3 @@
+-- Upto: a loop over a row, of elements of any type. Pairs: from the halves of a row to its vectors.
+pub mod Upto
+pub mod Pairs
