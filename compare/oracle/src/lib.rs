@@ -16,6 +16,7 @@ pub mod check;
 pub mod families;
 pub mod generate;
 pub mod records;
+pub mod rows;
 pub mod run;
 pub mod suite;
 pub mod table;

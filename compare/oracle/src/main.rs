@@ -1,7 +1,7 @@
 //! The modes of the oracle; README.md beside this crate says what each is for.
 
 use oracle::run::{self, Direct};
-use oracle::{check, records};
+use oracle::{check, records, rows};
 use std::io;
 use std::path::Path;
 use std::process::ExitCode;
@@ -15,7 +15,9 @@ fn main() -> io::Result<ExitCode> {
         ["run", program] => run::run(Direct { program, batch: run::BATCH }),
         ["run", program, batch] => run::run(Direct { program, batch: batch.parse().map_err(io::Error::other)? }),
         ["records", folder, suite] => records::write_all(Path::new(folder), Path::new(suite)).map(|()| true),
-        _ => Err(io::Error::other("no arguments, or: check | run PROGRAM [BATCH] | records FOLDER SUITE")),
+        ["rows"] => rows::write(None).map(|()| true),
+        ["rows", count] => rows::write(Some(count.parse().map_err(io::Error::other)?)).map(|()| true),
+        _ => Err(io::Error::other("no arguments, or: check | run PROGRAM [BATCH] | records FOLDER SUITE | rows [COUNT]")),
     }?;
     Ok(if good { ExitCode::SUCCESS } else { ExitCode::FAILURE })
 }

@@ -11,8 +11,8 @@ use mir.Val.{Fits}
 use borrow.Author.Tests.{eqb-true}
 use lib.Dec.{eqb}
 use lib.ListN.{length, getD, set, length-set}
-use Rattle.standard.specs.Integer.{iadd, ixor, ipopcnt}
-use Rattle.standard.specs.Lanes.{unary, binary, zip}
+use Rattle.standard.specs.Integer.{iadd, ipopcnt}
+use Rattle.standard.specs.Lanes.{unary, zip}
 use Rattle.standard.proofs.Bitwise.{bitwise-halves}
 use Rattle.standard.proofs.Digits.{low-digit, rest-digits}
 use Rattle.standard.proofs.Halves.{unary-halves, binary-halves}

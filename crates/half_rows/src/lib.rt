@@ -71,13 +71,13 @@ pub fn i8x16_popcnt(first: &mut [u64]) -> u8
     ensures { λ r. ⌜ r ≡ half-refusal (length (now (first .entry))) (length (now (first .entry))) ⌝ }
     ensures { λ r. ⌜ now (first .exit) ≡ after r (halves (map (unary 8 (ipopcnt 8)) (vectors (now (first .entry))))) (now (first .entry)) ⌝ }
 {
-    let n = first.len();
-    let refused = judge(n, n);
-    if refused != 0 {
-        return refused;
+    let length = first.len();
+    let odd = judge(length, length);
+    if odd != 0 {
+        return odd;
     }
     let mut i: usize = 0;
-    while i < n {
+    while i < length {
         first[i] = popcnt8(first[i]);
         i += 1;
     }

@@ -10,7 +10,6 @@ use Rattle.standard.specs.Lanes.{zip}
 use Rattle.standard.proofs.Loop.{zip-map}
 use Rattle.simd.specs.Number.{number}
 use Rattle.simd.specs.declared.V128.{V128}
-use Rattle.half_rows.specs.Rows.{refusal, after}
 use Rattle.half_rows.proofs.Upto.{Each}
 use Rattle.rows.specs.Answer.{Combined, Mapped}
 

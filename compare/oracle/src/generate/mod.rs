@@ -6,7 +6,7 @@ mod access;
 mod corners;
 mod float;
 mod lanes;
-mod random;
+pub mod random;
 mod vectors;
 
 use crate::table::{self, Shape};

@@ -1,12 +1,8 @@
 -- `half_rows::combine` meets its contract: a loop over the halves. Assumes nothing.
-use mathlib.Core.Path.{_≡_, refl, sym, _∙_, subst}
-use Prim.Native.Nat.{ℕ, suc, _+_, _-_, _≤_, _<_}
-use native.Mathlib.Numerals.{add-one}
-use native.Mathlib.Omega.{arith}
+use mathlib.Core.Path.{refl, sym, _∙_}
+use Prim.Native.Nat.{_-_}
 use borrow.Author.Needs.{needs}
-use lib.ListN.{length, getD}
-use Rattle.half_rows.specs.Choose.{vector-of, half-of}
-use Rattle.half_rows.proofs.Upto.{Upto}
+use Rattle.half_rows.specs.Choose.{half-of}
 use Rattle.half_rows.proofs.Pairs.{fits, Turning, turned, all-turned, by-halves, kept}
 use Rattle.half_rows.proofs.combine.Statement.{statement}
 use Rattle.half_rows.proofs.combine.Tie as tie

@@ -1,6 +1,6 @@
 -- `half_rows::combined` meets its contract. Assumes nothing.
 use borrow.Author.Needs.{needs}
-use mathlib.Core.Path.{_≡_, refl, _∙_}
+use mathlib.Core.Path.{_≡_, refl}
 use Prim.Native.Nat.{ℕ, zero, suc, _^_, _<_}
 use lib.Bits.{bitXor}
 use Rattle.standard.proofs.Bitwise.{xor-bits}

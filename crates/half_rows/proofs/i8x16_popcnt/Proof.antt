@@ -1,8 +1,7 @@
 -- `half_rows::i8x16_popcnt` meets its contract: a loop over the halves, with the row beside itself for a second. Assumes nothing.
-use mathlib.Core.Path.{_≡_, refl, sym, _∙_}
-use Prim.Native.Nat.{ℕ, _-_}
+use mathlib.Core.Path.{refl, sym, _∙_}
+use Prim.Native.Nat.{_-_}
 use borrow.Author.Needs.{needs}
-use lib.ListN.{length}
 use Rattle.standard.specs.Integer.{ipopcnt}
 use Rattle.packed.specs.Half.{half-unary}
 use Rattle.half_rows.proofs.Pairs.{fits, Turning, turned, all-counted, kept}
@@ -10,10 +9,10 @@ use Rattle.half_rows.proofs.i8x16_popcnt.Statement.{statement}
 use Rattle.half_rows.proofs.i8x16_popcnt.Tie as tie
 
 abbrev Inv-loop : tie.InvT-loop
-Inv-loop first₀ n refused i₀ first i = Turning (λ x y. half-unary 8 (ipopcnt 8) x) first₀ first₀ first i
+Inv-loop first₀ length odd i₀ first i = Turning (λ x y. half-unary 8 (ipopcnt 8) x) first₀ first₀ first i
 
 abbrev μ-loop : tie.MeasureT-loop
-μ-loop first₀ n refused i₀ first i = n - i
+μ-loop first₀ length odd i₀ first i = length - i
 
 judge-requires : tie.Need-judge-requires Inv-loop μ-loop
 judge-requires c κs = search needs
