@@ -1,0 +1,68 @@
+-- `chain::fold` meets its contract: a loop over the links. Assumes nothing.
+use mathlib.Core.Path.{_≡_, refl, sym, _∙_}
+use Prim.Native.Nat.{_≤_, _-_}
+use lib.ListN.{length, drop}
+use Rattle.chain.proofs.Judging.{unrefused}
+use Rattle.chain.proofs.Folding.{Folding, starts, goes-on, ends, kept}
+use borrow.Author.Needs.{needs}
+use Rattle.chain.proofs.fold.Statement.{statement}
+use Rattle.chain.proofs.fold.Tie as tie
+
+abbrev Inv-loop : tie.InvT-loop
+Inv-loop links out refused current₀ k₀ k-end current k = (k ≤ k-end) × ((k-end ≡ length links) × Folding links k current)
+
+abbrev μ-loop : tie.MeasureT-loop
+μ-loop links out refused current₀ k₀ k-end current k = k-end - k
+
+judge-requires : tie.Need-judge-requires Inv-loop μ-loop
+judge-requires c κs = search needs
+
+returns : tie.Need-returns Inv-loop μ-loop
+returns c = (c .before .judge .ensures, kept _ _ _ (c .if1 .taken))
+
+loop-holds : tie.Need-loop-holds Inv-loop μ-loop
+loop-holds c = (search needs, (refl, starts _))
+
+mul-linked : tie.Need-mul-linked Inv-loop μ-loop
+mul-linked c = search needs
+
+shared-slice-copy-out-linked : tie.Need-shared-slice-copy-out-linked Inv-loop μ-loop
+shared-slice-copy-out-linked c = search needs
+
+linked-requires : tie.Need-linked-requires Inv-loop μ-loop
+linked-requires c κs = search needs
+
+add-k : tie.Need-add-k Inv-loop μ-loop
+add-k c = search needs
+
+loop-less : tie.Need-loop-less Inv-loop μ-loop
+loop-less c = search needs
+
+loop-again : tie.Need-loop-again Inv-loop μ-loop
+loop-again c =
+    let loop = c .before .before .before .loop in
+    let links = c .before .before .before .before .before .before .args .links .now in
+    let legal = unrefused links (sym (c .before .before .before .before .before .judge .ensures) ∙ c .before .before .before .before .if1 .left) in
+    (search needs, (refl, goes-on links (loop .k) (loop .current) (loop .inv .1 .1) _ (c .linked .result) (search needs) legal (search needs) (c .linked .ensures)))
+
+returns-2 : tie.Need-returns-2 Inv-loop μ-loop
+returns-2 c =
+    let loop = c .before .loop in
+    (sym (sym (c .before .before .before .judge .ensures) ∙ c .before .before .if1 .left), ends (c .before .before .before .before .args .links .now) (loop .k) (loop .current) (loop .inv .1 .1) (search needs))
+
+pub fold-spec : {M : Type 1} → statement M
+fold-spec =
+    tie.close
+    (tie.spec
+    Inv-loop
+    μ-loop
+    judge-requires
+    returns
+    loop-holds
+    mul-linked
+    shared-slice-copy-out-linked
+    linked-requires
+    add-k
+    loop-less
+    loop-again
+    returns-2)
