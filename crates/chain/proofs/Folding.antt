@@ -38,14 +38,14 @@ module _ (links : List (List ℕ)) (k : ℕ) (current : List ℕ) (f : Folding l
       let beside = partner p (counted 16 0) (counted 16 16) current in
       let both = partner p low-places high-places (joined 8 current) in
       let of-partner : beside ≡ lanes 8 both =
-          ap (partner p (counted 16 0) (counted 16 16)) (sym bytes) ∙ partner-of (lanes 8) p low-places high-places (joined 8 current) in
+      ap (partner p (counted 16 0) (counted 16 16)) (sym bytes) ∙ partner-of (lanes 8) p low-places high-places (joined 8 current) in
       let shuffled : joined 8 next ≡ shuffle (indices link) (joined 8 current) both =
-          ap (joined 8) is ∙ shuffle-is (indices link) (joined 8 current) both (link-legal links k d h legal) refl (sym bytes) of-partner in
+      ap (joined 8) is ∙ shuffle-is (indices link) (joined 8 current) both (link-legal links k d h legal) refl (sym bytes) of-partner in
       let turn : chained (drop (k + 1) links) low-places high-places (joined 8 next) ≡ chained (drop k links) low-places high-places (joined 8 current) =
-          ap (chained (drop (k + 1) links) low-places high-places) shuffled
-          ∙ ap (λ (rest : List (List ℕ)). chained rest low-places high-places (joined 8 current)) (sym (one-more d links k h)) in
+      ap (chained (drop (k + 1) links) low-places high-places) shuffled
+      ∙ ap (λ (rest : List (List ℕ)). chained rest low-places high-places (joined 8 current)) (sym (one-more d links k h)) in
       let below = picked-below 256 (omega arith) (λ i. i % 32) current beside (indices link) (f .1 .0)
-          (partner-has (Below 256) p (counted 16 0) (counted 16 16) current (counted-below 256 16 0 (omega arith)) (counted-below 256 16 16 (omega arith)) (f .1 .0)) in
+      (partner-has (Below 256) p (counted 16 0) (counted 16 16) current (counted-below 256 16 0 (omega arith)) (counted-below 256 16 16 (omega arith)) (f .1 .0)) in
       (e, (rw is below, ap (lanes 8) turn ∙ f .1 .1))
 
   pub ends : length links ≤ k → current ≡ folded links

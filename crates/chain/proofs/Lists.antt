@@ -21,6 +21,11 @@ partner-has Q zero a b c qa qb qc = qa
 partner-has Q (suc zero) a b c qa qb qc = qb
 partner-has Q (suc (suc p)) a b c qa qb qc = qc
 
+pub partner-itself : {A : Type 0} (p : ℕ) (a b c : A) → (p ≡ 0 → ⊥) → (p ≡ 1 → ⊥) → c ≡ partner p a b c
+partner-itself zero a b c no-a no-b = absurd (no-a refl)
+partner-itself (suc zero) a b c no-a no-b = absurd (no-b refl)
+partner-itself (suc (suc p)) a b c no-a no-b = refl
+
 -- elements below m
 module _ (m : ℕ) (some : 0 < m) where
   get-below : (t : List ℕ) (i : ℕ) → Below m t → getD t i 0 < m

@@ -17,14 +17,45 @@ const INDEX: u8 = 5;
 // The indices of a, of the vector that the chain starts from, and of b.
 const OF_A: [u8; 16] = [0, 1, 2, 3, 4, 5, 6, 7, 8, 9, 10, 11, 12, 13, 14, 15];
 
-const OF_B: [u8; 16] = [16, 17, 18, 19, 20, 21, 22, 23, 24, 25, 26, 27, 28, 29, 30, 31];
+const OF_B: [u8; 16] = [
+    16,
+    17,
+    18,
+    19,
+    20,
+    21,
+    22,
+    23,
+    24,
+    25,
+    26,
+    27,
+    28,
+    29,
+    30,
+    31,
+];
 
 pub fn indices_of(link: [u8; 17]) -> [u8; 16]
     ensures { λ r. ⌜ r ≡ indices link ⌝ }
 {
     [
-        link[1], link[2], link[3], link[4], link[5], link[6], link[7], link[8], link[9], link[10], link[11], link[12],
-        link[13], link[14], link[15], link[16],
+        link[1],
+        link[2],
+        link[3],
+        link[4],
+        link[5],
+        link[6],
+        link[7],
+        link[8],
+        link[9],
+        link[10],
+        link[11],
+        link[12],
+        link[13],
+        link[14],
+        link[15],
+        link[16],
     ]
 }
 
@@ -57,7 +88,10 @@ fn partner_of(n: u8, current: [u8; 16]) -> [u8; 16]
 fn linked(current: [u8; 16], link: [u8; 17]) -> [u8; 16]
     ensures { λ r. ⌜ r ≡ map (λ i. getD (current ++ partner (getD link 0 0) (counted 16 0) (counted 16 16) current) (i % 32) 0) (indices link) ⌝ }
 {
-    picked(beside(current, partner_of(link[0], current)), indices_of(link))
+    picked(
+        beside(current, partner_of(link[0], current)),
+        indices_of(link),
+    )
 }
 
 // 0, and the folded indices are written to `out`; or the number of the refusal, and nothing is written.

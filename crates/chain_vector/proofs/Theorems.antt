@@ -1,0 +1,24 @@
+-- The theorem of order 13, of the code: a chain that is not refused, applied to two vectors, gives what one `i8x16_shuffle` by the folded indices gives. Assumes nothing.
+use mathlib.Core.Path.{_≡_, sym, _∙_}
+use mathlib.Core.List.{List}
+use Prim.Native.Nat.{ℕ, _*_, _^_, _<_}
+use native.Mathlib.Nat.{add-comm, mul-comm}
+use lib.Arith.{digits-lt}
+use Rattle.standard.specs.Refusal.{at-indices}
+use Rattle.standard.specs.Vector.{shuffle}
+use Rattle.simd.specs.Answer.{vector-answer}
+use Rattle.simd.specs.Number.{number}
+use Rattle.simd.specs.declared.V128.{V128}
+use Rattle.simd.specs.declared.answer.VectorAnswer.{VectorAnswer}
+use Rattle.simd.proofs.Coincide.{Held}
+use Rattle.chain.specs.Definition.{refusal, applied, folded}
+use Rattle.chain.proofs.Bytes.{Whole}
+use Rattle.chain.proofs.Theorems.{applied-once}
+
+number-lt : (v : V128) → Held v → number v < 2 ^ 128
+number-lt v h = rw (add-comm (v .lo) (2 ^ 64 * v .hi), mul-comm (2 ^ 64) (v .hi)) (digits-lt (h .high) (h .low))
+
+-- r is what `apply` promises, and q what `i8x16_shuffle` promises for the indices that `fold` writes
+pub one-shuffle : (links : List (List ℕ)) → Whole links → refusal links ≡ 0 → (a b : V128) → Held a → Held b → (r q : VectorAnswer)
+    → vector-answer r ≡ applied links (number a) (number b) → vector-answer q ≡ at-indices (folded links) (shuffle (folded links) (number a) (number b)) → vector-answer r ≡ vector-answer q
+one-shuffle links w unrefused a b ha hb r q er eq = er ∙ applied-once links w unrefused (number a) (number b) (number-lt a ha) (number-lt b hb) ∙ sym eq
