@@ -1,17 +1,15 @@
 -- A chain over lists of bytes, and the definition's over numbers.
 -- Assumes nothing.
-use mathlib.Core.Path.{_≡_, refl, sym, ap, ap₂, _∙_, subst}
-use mathlib.Core.Bool.{Bool, true, false, cond}
+use mathlib.Core.Path.{_≡_, refl, sym, ap, _∙_, subst}
 use mathlib.Core.List.{List, [], _∷_, _++_, map}
-use Prim.Native.Nat.{ℕ, zero, suc, _*_, _^_, _<_}
-use native.Mathlib.Nat.{not-suc-le-zero, le-of-suc-le-suc, suc-inj, suc-ne-zero}
-use native.Mathlib.Numerals.{add-one}
+use Prim.Native.Nat.{ℕ, _*_, _^_, _<_}
+use native.Mathlib.Nat.{suc-inj, suc-ne-zero}
 use native.Mathlib.Omega.{arith}
-use lib.ListN.{length, getD, drop, length-map}
-use Rattle.standard.specs.Lanes.{joined, lanes}
+use lib.ListN.{length, getD, length-map}
+use Rattle.standard.specs.Lanes.{lanes}
 use Rattle.standard.specs.Vector.{shuffle}
 use Rattle.standard.proofs.Digits.{Below, digits-below, joined-lt, lanes-joined}
-use Rattle.chain.specs.Definition.{indices, partner, chained, all-legal, counted, low-places, high-places, folded}
+use Rattle.chain.specs.Definition.{indices, partner, chained, counted, low-places, high-places, folded}
 use Rattle.chain.proofs.Lists.{partner-of, picked-below}
 
 -- every link has its seventeen bytes

@@ -1,7 +1,7 @@
 -- `chain::fold` meets its contract: a loop over the links. Assumes nothing.
 use mathlib.Core.Path.{_≡_, refl, sym, _∙_}
 use Prim.Native.Nat.{_≤_, _-_}
-use lib.ListN.{length, drop}
+use lib.ListN.{length}
 use Rattle.chain.proofs.Judging.{unrefused}
 use Rattle.chain.proofs.Folding.{Folding, starts, goes-on, ends, kept}
 use borrow.Author.Needs.{needs}

@@ -1,5 +1,5 @@
 -- `chain_vector::apply` meets its contract: a loop over the links. Assumes nothing.
-use mathlib.Core.Path.{_≡_, refl, sym, ap, _∙_}
+use mathlib.Core.Path.{_≡_, refl, sym, _∙_}
 use Prim.Native.Nat.{_≤_, _-_}
 use lib.ListN.{length, drop}
 use Rattle.simd.specs.Number.{number}
