@@ -1,0 +1,3 @@
+pub mod Remainder
+pub mod Block
+pub mod Powers
