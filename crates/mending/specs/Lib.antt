@@ -1,0 +1,3 @@
+pub mod Definition
+pub mod Answer
+pub mod Place

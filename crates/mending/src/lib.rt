@@ -1,0 +1,150 @@
+// Mending recordings (document 02, order 10): blocks whose check is wrong by one flipped bit.
+ghost use Prim.Native.Nat.{_-_, _%_, _^_, _≤_};
+ghost use mathlib.Core.Path.{_≡_};
+ghost use mathlib.Core.Bool.{cond};
+ghost use lib.Dec.{ltb};
+ghost use lib.ListN.{length};
+ghost use Rattle.remainder.specs.Remainder.{shift};
+ghost use Rattle.layout.specs.Definition.{blocks};
+ghost use Rattle.mending.specs.Definition.{flipped, mended, refused, done, mending};
+ghost use Rattle.mending.specs.Place.{Place, number-of};
+ghost use Rattle.mending.specs.Answer.{mending-of};
+use layout::judge::LENGTH;
+use layout::judge::is_whole;
+use remainder::check;
+
+// "output buffer shorter than the input, tested after 13"
+pub const SHORT: u8 = 16;
+
+// No bit was put back.
+pub const NONE: u16 = 4096;
+
+// The block can not be mended.
+const BEYOND: u16 = 4097;
+
+pub struct Mending {
+    // the number of a refusal; 0 for none
+    pub refused: u8,
+    // how many blocks were written
+    pub written: usize,
+    // whether the block after them could not be mended
+    pub stopped: bool,
+    // of each block written the bit that was put back, or NONE
+    pub bits: [u16; 37],
+}
+
+// A register times x.
+fn next(r: u16) -> u16
+    ensures { λ q. ⌜ q ≡ shift r ⌝ }
+{
+    ((r >> 15) * 4129) ^ (r << 1)
+}
+
+// The bit whose flip gives the register q, found by a walk over the powers of x from the last bit on; 4096 if there is none.
+fn walk(q: u16) -> u16
+    ensures { λ k. ⌜ Place q k ⌝ }
+{
+    let mut power: u16 = 4129;
+    for i in 0..4096 {
+        if power == q {
+            return 4095 - i;
+        }
+        power = next(power);
+    }
+    4096
+}
+
+// What becomes of a block: the bit to put back, NONE, or BEYOND.
+fn place(b: &[u8]) -> u16
+    requires { ⌜ length (now b) ≡ 512 ⌝ }
+    ensures { λ r. ⌜ r ≡ number-of (mended (now (b .entry))) ⌝ }
+{
+    let q = check(b);
+    if q == 0 {
+        return NONE;
+    }
+    let k = walk(q);
+    if k < 4096 {
+        return k;
+    }
+    BEYOND
+}
+
+// The mark of bit k in its byte.
+fn mark(k: u16) -> u8
+    ensures { λ p. ⌜ p ≡ 2 ^ (7 - k % 8) ⌝ }
+{
+    let n = (7 - k % 8) as u8;
+    1 << n
+}
+
+// A block with a bit put back, or as it is.
+fn put(b: &[u8], bit: u16, out: &mut [u8])
+    requires { ⌜ length (now b) ≡ 512 ⌝ }
+    requires { ⌜ length (now out) ≡ 512 ⌝ }
+    ensures { λ r. ⌜ now (out .exit) ≡ cond (ltb bit 4096) (flipped bit (now (b .entry))) (now (b .entry)) ⌝ }
+{
+    bytes::copy(b, out);
+    if bit < NONE {
+        let i = (bit / 8) as usize;
+        out[i] = out[i] ^ mark(bit);
+    }
+}
+
+// Nothing written.
+fn refusal(number: u8) -> Mending
+    ensures { λ r. ⌜ mending-of r ≡ refused number ⌝ }
+{
+    Mending {
+        refused: number,
+        written: 0,
+        stopped: false,
+        bits: [NONE; 37],
+    }
+}
+
+// Block after block, up to the first that can not be mended.
+fn mend_blocks(file: &[u8], out: &mut [u8]) -> Mending
+    requires { ⌜ blocks (now file) ≤ 37 ⌝ }
+    requires { ⌜ length (now file) ≤ length (now out) ⌝ }
+    ensures { λ r. ⌜ (mending-of r, now (out .exit)) ≡ done (now (file .entry)) (now (out .entry)) ⌝ }
+{
+    let n = file.len() / 512;
+    let mut bits = [NONE; 37];
+    let mut k = 0;
+    while k < n {
+        let from = 512 * k;
+        let to = from + 512;
+        let bit = place(&file[from..to]);
+        if bit > NONE {
+            return Mending {
+                refused: 0,
+                written: k,
+                stopped: true,
+                bits,
+            };
+        }
+        put(&file[from..to], bit, &mut out[from..to]);
+        bits[k] = bit;
+        k += 1;
+    }
+    Mending {
+        refused: 0,
+        written: k,
+        stopped: false,
+        bits,
+    }
+}
+
+// The blocks of a recording, mended where one bit mends them, at the start of the output.
+pub fn mend(file: &[u8], out: &mut [u8]) -> Mending
+    ensures { λ r. ⌜ (mending-of r, now (out .exit)) ≡ mending (now (file .entry)) (now (out .entry)) ⌝ }
+{
+    if !is_whole(file.len()) {
+        return refusal(LENGTH);
+    }
+    if out.len() < file.len() {
+        return refusal(SHORT);
+    }
+    mend_blocks(file, out)
+}
