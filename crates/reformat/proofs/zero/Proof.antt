@@ -1,7 +1,7 @@
 -- `reformat::zero` meets its contract: both lanes in one half, and zeros in the other. Assumes nothing.
 use borrow.Author.Needs.{needs}
-use mathlib.Core.Path.{ap, _∙_}
-use mathlib.Core.List.{List, [], _∷_, map}
+use mathlib.Core.Path.{ap}
+use mathlib.Core.List.{[], _∷_, map}
 use Prim.Native.Nat.{ℕ}
 use Rattle.standard.specs.Lanes.{joined}
 use Rattle.standard.proofs.Halves.{all-elements}
