@@ -166,7 +166,7 @@ pub fn name(number: u16) -> String {
 
 /// A result whose NaN lanes are the positive quiet one (document 02, order 4). The Rust's NaN has any bits, so a comparison with this is equal where both
 /// are NaN and ours has the one pattern.
-fn with_one_nan(outcome: Outcome, shape: Shape) -> Outcome {
+pub fn with_one_nan(outcome: Outcome, shape: Shape) -> Outcome {
     let (Outcome::Vector(vector), Some(lane)) = (outcome, shape.open_nans()) else {
         return outcome;
     };

@@ -1,7 +1,7 @@
 //! Requests for loads and stores: every length, the places around each bound, sums that would come round, shortfalls that are held, lane numbers.
 
+use super::Generator;
 use super::random::Random;
-use super::{Generator, RANDOM};
 use crate::table::Access;
 use crate::wire::{MEMORY, Request};
 
@@ -140,7 +140,7 @@ pub fn access(generator: &mut Generator, access: Access) {
 /// Random places, most of them within bounds: more than 100,000 accesses that are made.
 fn random_places(generator: &mut Generator, access: Access) {
     generator.section("random");
-    for _ in 0..RANDOM / 4 * 5 {
+    for _ in 0..generator.many / 4 * 5 {
         generator.add(|request, random| {
             let all = MEMORY as u64 + 1;
             let length = match random.below(16) {

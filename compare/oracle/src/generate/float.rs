@@ -3,7 +3,7 @@
 use super::corners::{self, Lanes};
 use super::random::Random;
 use super::vectors::{corner_pairs, corner_places};
-use super::{Generator, RANDOM};
+use super::Generator;
 use crate::table::Lane;
 
 /// Random pairs of lanes for each function of float arithmetic.
@@ -104,12 +104,12 @@ pub fn converted(generator: &mut Generator, lane: Lane) {
     corner_places(generator, &lanes);
     if float {
         generator.section("middling");
-        for _ in 0..RANDOM {
+        for _ in 0..generator.many {
             generator.add(|request, random| (0..lane.count()).for_each(|place| lanes.put(&mut request.a, place, middling(lane, random))));
         }
     }
     generator.section("random");
-    for _ in 0..RANDOM {
+    for _ in 0..generator.many {
         generator.add(|request, random| request.a = lanes.vector(random));
     }
 }

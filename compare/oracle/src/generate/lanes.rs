@@ -1,7 +1,7 @@
 //! Requests for operations with a lane number, a scalar or indices: splat, extract, replace, shuffle, swizzle, bits.
 
+use super::Generator;
 use super::corners::Lanes;
-use super::{Generator, RANDOM};
 use crate::table::Lane;
 
 /// A scalar whose low bits are a lane's value, with noise above.
@@ -23,7 +23,7 @@ pub fn splat(generator: &mut Generator, lane: Lane) {
         generator.add(|request, _| request.scalar = (request.scalar & !0xffff) | u64::from(value));
     }
     generator.section("random");
-    for _ in 0..RANDOM {
+    for _ in 0..generator.many {
         generator.add(|request, random| request.scalar = above(lane, lanes.value(random), request.scalar));
     }
 }
@@ -55,7 +55,7 @@ pub fn extract(generator: &mut Generator, lane: Lane) {
         }
     }
     generator.section("random");
-    for _ in 0..RANDOM {
+    for _ in 0..generator.many {
         generator.add(|request, random| {
             request.lane = random.below(lane.count() as u64) as u8;
             request.a = lanes.vector(random);
@@ -76,7 +76,7 @@ pub fn replace(generator: &mut Generator, lane: Lane) {
         }
     }
     generator.section("random");
-    for _ in 0..RANDOM {
+    for _ in 0..generator.many {
         generator.add(|request, random| {
             request.lane = random.below(lane.count() as u64) as u8;
             request.a = lanes.vector(random);
@@ -107,7 +107,7 @@ pub fn shuffle(generator: &mut Generator) {
     generator.section("anything");
     (0..10_000).for_each(|_| generator.add(|_, _| ()));
     generator.section("random");
-    for _ in 0..RANDOM {
+    for _ in 0..generator.many {
         generator.add(|request, _| request.c = request.c.map(|byte| byte & 31));
     }
 }
@@ -123,7 +123,7 @@ pub fn swizzle(generator: &mut Generator) {
         }
     }
     generator.section("random");
-    for _ in 0..RANDOM {
+    for _ in 0..generator.many {
         generator.add(|request, random| {
             let mask = random.pick(&[15, 31, 255]);
             request.b = request.b.map(|byte| byte & mask);
@@ -142,7 +142,7 @@ pub fn bits(generator: &mut Generator) {
     for lane in [Lane::I8, Lane::I16, Lane::I32, Lane::I64] {
         generator.section("random");
         let lanes = Lanes::new(lane);
-        for _ in 0..RANDOM / 4 {
+        for _ in 0..generator.many / 4 {
             generator.add(|request, random| request.scalar = low_half(&lanes.vector(random)));
         }
     }

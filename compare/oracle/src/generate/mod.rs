@@ -13,8 +13,10 @@ use crate::table::{self, Shape};
 use crate::wire::{MEMORY, REQUEST, Request};
 use random::Random;
 
-/// Random vectors for each function, beyond those that are enumerated.
+/// Random vectors for each function, beyond those that are enumerated, unless another number is named.
 pub const RANDOM: usize = 100_000;
+/// Requests that are handed on at once.
+const BATCH: usize = 65_536;
 
 /// A part of a function's requests: its name and where it begins.
 #[derive(Clone, Copy)]
@@ -23,17 +25,32 @@ pub struct Section {
     pub start: usize,
 }
 
-/// The requests of one function.
-pub struct Generator {
+/// What takes requests as they are made.
+pub type Taker<'a> = &'a mut dyn FnMut(&[[u8; REQUEST]]);
+
+/// The requests of one function; those that were handed on are not kept.
+pub struct Generator<'a> {
     number: u16,
     random: Random,
+    /// How many random vectors are made.
+    many: usize,
+    taker: Option<Taker<'a>>,
     pub requests: Vec<[u8; REQUEST]>,
     pub sections: Vec<Section>,
 }
 
-impl Generator {
+impl<'a> Generator<'a> {
     fn new(number: u16) -> Self {
-        Self { number, random: Random::new(number.into()), requests: Vec::new(), sections: Vec::new() }
+        let random = Random::new(number.into());
+        Self { number, random, many: RANDOM, taker: None, requests: Vec::new(), sections: Vec::new() }
+    }
+
+    /// Hands on what there is, where there is a taker.
+    fn hand_on(&mut self) {
+        if let Some(taker) = &mut self.taker {
+            taker(&self.requests);
+            self.requests.clear();
+        }
     }
 
     fn section(&mut self, name: &'static str) {
@@ -58,34 +75,48 @@ impl Generator {
         let mut request = self.noise();
         set(&mut request, &mut self.random);
         self.requests.push(request.to_bytes());
+        if self.requests.len() == BATCH {
+            self.hand_on();
+        }
     }
 }
 
 /// The requests of a function or packed form.
-pub fn function(number: u16, shape: Shape) -> Generator {
+pub fn function(number: u16, shape: Shape) -> Generator<'static> {
     let mut generator = Generator::new(number);
-    match shape {
-        Shape::Splat(lane) => lanes::splat(&mut generator, lane),
-        Shape::Extract(lane) => lanes::extract(&mut generator, lane),
-        Shape::Replace(lane) => lanes::replace(&mut generator, lane),
-        Shape::Shuffle => lanes::shuffle(&mut generator),
-        Shape::Swizzle => lanes::swizzle(&mut generator),
-        Shape::Unary(lane) => vectors::unary(&mut generator, lane),
-        Shape::Binary(lane) => vectors::binary(&mut generator, lane),
-        Shape::Arithmetic(lane) => float::arithmetic(&mut generator, lane),
-        Shape::Converted { reads, .. } => float::converted(&mut generator, reads),
-        Shape::Select => vectors::select(&mut generator),
-        Shape::Dot => vectors::dot(&mut generator),
-        Shape::Shift(lane) => vectors::shift(&mut generator, lane),
-        Shape::Reduce(lane) => vectors::reduce(&mut generator, lane),
-        Shape::Bits => lanes::bits(&mut generator),
-        Shape::Memory(access) => access::access(&mut generator, access),
-    }
+    generate(&mut generator, shape);
     generator
 }
 
+/// The same with as many random ones as named, handed on batch by batch.
+pub fn hand_on(number: u16, shape: Shape, many: usize, taker: Taker) {
+    let mut generator = Generator { many, taker: Some(taker), ..Generator::new(number) };
+    generate(&mut generator, shape);
+    generator.hand_on();
+}
+
+fn generate(generator: &mut Generator, shape: Shape) {
+    match shape {
+        Shape::Splat(lane) => lanes::splat(generator, lane),
+        Shape::Extract(lane) => lanes::extract(generator, lane),
+        Shape::Replace(lane) => lanes::replace(generator, lane),
+        Shape::Shuffle => lanes::shuffle(generator),
+        Shape::Swizzle => lanes::swizzle(generator),
+        Shape::Unary(lane) => vectors::unary(generator, lane),
+        Shape::Binary(lane) => vectors::binary(generator, lane),
+        Shape::Arithmetic(lane) => float::arithmetic(generator, lane),
+        Shape::Converted { reads, .. } => float::converted(generator, reads),
+        Shape::Select => vectors::select(generator),
+        Shape::Dot => vectors::dot(generator),
+        Shape::Shift(lane) => vectors::shift(generator, lane),
+        Shape::Reduce(lane) => vectors::reduce(generator, lane),
+        Shape::Bits => lanes::bits(generator),
+        Shape::Memory(access) => access::access(generator, access),
+    }
+}
+
 /// Requests that name no function here (every such number), and memory lengths above 48 for every function.
-pub fn refused() -> Generator {
+pub fn refused() -> Generator<'static> {
     let mut generator = Generator::new(0);
     generator.section("numbers");
     for number in (0..=u16::MAX).filter(|number| table::entry(*number).is_none()) {

@@ -1,7 +1,7 @@
 //! Requests for operations of whole vectors: one operand, two, three, shifts, reductions.
 
+use super::Generator;
 use super::corners::Lanes;
-use super::{Generator, RANDOM};
 use crate::table::Lane;
 
 /// Every pair of corner values, in every place of the two vectors.
@@ -65,7 +65,7 @@ pub fn unary(generator: &mut Generator, lane: Lane) {
         sixteens(generator);
     }
     generator.section("random");
-    for _ in 0..RANDOM {
+    for _ in 0..generator.many {
         generator.add(|request, random| request.a = lanes.vector(random));
     }
 }
@@ -79,7 +79,7 @@ pub fn binary(generator: &mut Generator, lane: Lane) {
         _ => (),
     }
     generator.section("random");
-    for _ in 0..RANDOM {
+    for _ in 0..generator.many {
         generator.add(|request, random| {
             request.a = lanes.vector(random);
             request.b = lanes.near_vector(&request.a, random);
@@ -112,7 +112,7 @@ pub fn dot(generator: &mut Generator) {
     byte_pairs(generator);
     generator.section("random");
     let (bytes, sums) = (Lanes::new(Lane::I8), Lanes::new(Lane::I32));
-    for _ in 0..RANDOM {
+    for _ in 0..generator.many {
         generator.add(|request, random| {
             request.a = bytes.vector(random);
             request.b = bytes.near_vector(&request.a, random);
@@ -139,7 +139,7 @@ pub fn select(generator: &mut Generator) {
         }
     }
     generator.section("random");
-    for _ in 0..RANDOM {
+    for _ in 0..generator.many {
         generator.add(|request, random| {
             request.a = lanes.vector(random);
             request.b = lanes.vector(random);
@@ -206,7 +206,7 @@ pub fn shift(generator: &mut Generator, lane: Lane) {
         every_lane_shifted(generator, &lanes);
     }
     generator.section("random");
-    for _ in 0..RANDOM {
+    for _ in 0..generator.many {
         generator.add(|request, random| {
             request.a = lanes.vector(random);
             request.count = match random.below(2) {
@@ -263,7 +263,7 @@ pub fn reduce(generator: &mut Generator, lane: Lane) {
     generator.add(|request, _| request.a = [255; 16]);
     every_choice(generator);
     generator.section("random");
-    for _ in 0..RANDOM {
+    for _ in 0..generator.many {
         generator.add(|request, random| request.a = lanes.vector(random));
     }
 }

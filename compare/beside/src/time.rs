@@ -1,0 +1,89 @@
+//! Times of each operation, through the crate and as simd.rs has it. An operation is called as an interpreter's handler calls it: the operands stand in memory, the
+//! handler is reached by a pointer, and the result is written to memory. The handler is one source, compiled once against simd.rs and once against the crate.
+
+use crate::port;
+use crate::wire::Request;
+use oracle::{generate, table, wire};
+use std::hint::black_box;
+use std::time::{Duration, Instant};
+
+/// Requests that a round goes through, and rounds of which the fastest counts.
+const REQUESTS: usize = 64;
+const TURNS: usize = 512;
+const ROUNDS: usize = 9;
+
+/// The time of one call in nanoseconds: the fastest of some rounds.
+fn fastest(mut round: impl FnMut()) -> f64 {
+    let once = |round: &mut dyn FnMut()| {
+        let start = Instant::now();
+        round();
+        start.elapsed()
+    };
+    let best = (0..ROUNDS).map(|_| once(&mut round)).min().unwrap_or(Duration::ZERO);
+    best.as_nanos() as f64 / (REQUESTS * TURNS) as f64
+}
+
+/// Requests that are not refused, as both sides have them.
+fn requests(number: u16) -> (Vec<wire::Request>, Vec<Request>) {
+    let entry = table::entry(number).expect("a function");
+    let made = generate::function(number, entry.shape).requests;
+    let accepted = made.iter().rev().filter(|bytes| table::answer(&wire::Request::from_bytes(bytes))[0] == 0).take(REQUESTS);
+    accepted.map(|bytes| (wire::Request::from_bytes(bytes), Request::from_bytes(bytes))).unzip()
+}
+
+macro_rules! timed {
+    ($call:expr, $requests:expr) => {{
+        let call = black_box($call);
+        let mut memories: Vec<_> = $requests.iter().map(|request| request.memory[..usize::from(request.length)].to_vec()).collect();
+        fastest(|| {
+            for _ in 0..TURNS {
+                for (request, memory) in $requests.iter().zip(&mut memories) {
+                    black_box(&call(request, memory));
+                }
+            }
+        })
+    }};
+}
+
+struct Row {
+    name: String,
+    rust: f64,
+    port: f64,
+}
+
+impl Row {
+    fn ratio(&self) -> f64 {
+        self.port / self.rust
+    }
+}
+
+fn row(number: u16) -> Row {
+    let (rust, port) = requests(number);
+    Row {
+        name: table::name(number),
+        rust: timed!(table::entry(number).expect("a function").call, rust),
+        port: timed!(port::entry(number).call, port),
+    }
+}
+
+fn print(row: &Row) {
+    println!("| `{}` | {:.2} | {:.2} | {:.2} |", row.name, row.rust, row.port, row.ratio());
+}
+
+fn median(rows: &[Row]) -> f64 {
+    rows[rows.len() / 2].ratio()
+}
+
+/// A table of all, the median of the ratios and the worst ten.
+pub fn run() -> bool {
+    println!("| operation | the Rust, ns | linked, ns | ratio |\n|---|---:|---:|---:|");
+    let mut rows: Vec<Row> = table::numbers().into_iter().map(row).collect();
+    rows.iter().for_each(print);
+    rows.sort_by(|a, b| a.ratio().total_cmp(&b.ratio()));
+    println!(
+        "\nMedian of the ratios: {:.2}. The worst ten:\n\n| operation | the Rust, ns | linked, ns | ratio |\n|---|---:|---:|---:|",
+        median(&rows)
+    );
+    rows.iter().rev().take(10).for_each(print);
+    true
+}

@@ -1,0 +1,14 @@
+-- The calculator's state, as the code holds it and as C hands it over. Assumes nothing.
+use Prim.Native.Nat.{ℕ}
+use mathlib.Core.Path.{_≡_, refl}
+use mathlib.Core.List.{List}
+use Rattle.rules.specs.Definition.{Machine}
+use Rattle.operation.specs.Scalar.{kind-of, bits-of, scalar-of}
+use Rattle.operation.specs.declared.scalar.Scalar.{Scalar}
+use Rattle.state.specs.State.{vectors}
+use Rattle.handover.specs.Calculate.{held, machine-held}
+
+-- the state of a scalar is the one that the scalar's numbers stand for
+pub machines : (r w n : List ℕ) (s : Scalar) (k b : ℕ) → r ≡ vectors w → scalar-of s ≡ held k b
+    → _≡_ {A = Machine} (record { registers = r; writers = n; kind = kind-of s; bits = bits-of s }) (machine-held w n k b)
+machines r w n s k b e f = rw (e, ← f) refl

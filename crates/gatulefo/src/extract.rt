@@ -1,0 +1,67 @@
+// Extract: the lane at a number below the lane count; any other number is refused with 4.
+ghost use Rattle.handover.specs.Answer.{pair};
+ghost use Rattle.simd.specs.Number.{number};
+ghost use Rattle.standard.specs.Integer.{extend-s};
+ghost use Rattle.standard.specs.Lanes.{extract};
+ghost use Rattle.standard.specs.Refusal.{at-lane};
+ghost use mathlib.Core.Path.{_≡_};
+use handover::answer::given_i32;
+use handover::answer::given_i64;
+use handover::answer::given_u32;
+use simd::V128;
+
+#[no_mangle]
+pub extern "C" fn gatulefo_i64x2_extract_lane(v: V128, lane: u8, refused: &mut u8) -> u64
+    ensures { λ r. ⌜ (r, now (refused .exit)) ≡ pair (at-lane 64 lane (extract 64 (number v) lane)) ⌝ }
+{
+    given_i64(v.i64x2_extract_lane(lane), refused)
+}
+
+#[no_mangle]
+pub extern "C" fn gatulefo_i32x4_extract_lane(v: V128, lane: u8, refused: &mut u8) -> u32
+    ensures { λ r. ⌜ (r, now (refused .exit)) ≡ pair (at-lane 32 lane (extract 32 (number v) lane)) ⌝ }
+{
+    given_i32(v.i32x4_extract_lane(lane), refused)
+}
+
+#[no_mangle]
+pub extern "C" fn gatulefo_f64x2_extract_lane(v: V128, lane: u8, refused: &mut u8) -> u64
+    ensures { λ r. ⌜ (r, now (refused .exit)) ≡ pair (at-lane 64 lane (extract 64 (number v) lane)) ⌝ }
+{
+    given_i64(v.i64x2_extract_lane(lane), refused)
+}
+
+#[no_mangle]
+pub extern "C" fn gatulefo_f32x4_extract_lane(v: V128, lane: u8, refused: &mut u8) -> u32
+    ensures { λ r. ⌜ (r, now (refused .exit)) ≡ pair (at-lane 32 lane (extract 32 (number v) lane)) ⌝ }
+{
+    given_i32(v.i32x4_extract_lane(lane), refused)
+}
+
+#[no_mangle]
+pub extern "C" fn gatulefo_i8x16_extract_lane_s(v: V128, lane: u8, refused: &mut u8) -> u32
+    ensures { λ r. ⌜ (r, now (refused .exit)) ≡ pair (at-lane 8 lane (extend-s 8 32 (extract 8 (number v) lane))) ⌝ }
+{
+    given_i32(v.i8x16_extract_lane_s(lane), refused)
+}
+
+#[no_mangle]
+pub extern "C" fn gatulefo_i8x16_extract_lane_u(v: V128, lane: u8, refused: &mut u8) -> u32
+    ensures { λ r. ⌜ (r, now (refused .exit)) ≡ pair (at-lane 8 lane (extract 8 (number v) lane)) ⌝ }
+{
+    given_u32(v.i8x16_extract_lane_u(lane), refused)
+}
+
+#[no_mangle]
+pub extern "C" fn gatulefo_i16x8_extract_lane_s(v: V128, lane: u8, refused: &mut u8) -> u32
+    ensures { λ r. ⌜ (r, now (refused .exit)) ≡ pair (at-lane 16 lane (extend-s 16 32 (extract 16 (number v) lane))) ⌝ }
+{
+    given_i32(v.i16x8_extract_lane_s(lane), refused)
+}
+
+#[no_mangle]
+pub extern "C" fn gatulefo_i16x8_extract_lane_u(v: V128, lane: u8, refused: &mut u8) -> u32
+    ensures { λ r. ⌜ (r, now (refused .exit)) ≡ pair (at-lane 16 lane (extract 16 (number v) lane)) ⌝ }
+{
+    given_u32(v.i16x8_extract_lane_u(lane), refused)
+}

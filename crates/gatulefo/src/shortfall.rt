@@ -1,0 +1,20 @@
+// How far past the end an access runs that is refused with 7 (document 02, order 9).
+ghost use mathlib.Core.Path.{_≡_};
+ghost use Prim.Native.Nat.{_+_};
+ghost use Rattle.standard.specs.Memory.{within};
+ghost use Rattle.handover.specs.Answer.{short-of};
+use bounds::Access;
+use bounds::Effective;
+use bounds::reach;
+
+// The exact end of the access of so many bytes minus the length of the memory, at most 2^64-1; 0 where the access is allowed. The address of an `_at` function is
+// `ptr`, with the offset 0.
+#[no_mangle]
+pub extern "C" fn gatulefo_shortfall(memory: &[u8], ptr: u64, offset: u64, bytes: usize) -> u64
+    ensures { λ r. ⌜ r ≡ short-of (within (now (memory .entry)) (ptr + offset) bytes (ptr + offset)) ⌝ }
+{
+    match reach(memory, Effective::Sum(ptr, offset), bytes) {
+        Access::At(_) => 0,
+        Access::Past(short) => short,
+    }
+}

@@ -1,0 +1,1063 @@
+/* gatulefo.h: WebAssembly's 128-bit vector instructions, proved.
+ *
+ * Made by link/header out of crates/gatulefo/src. `rt staticlib gatulefo` makes the archive, target/staticlib/libgatulefo.a, for Linux on x86-64; link/check calls every
+ * function here from C and compares what it answers.
+ *
+ * A vector goes in and comes out by value. A scalar goes in and comes out as its bits: an i8 as a uint8_t, a float as the number of its pattern. A function that may
+ * refuse writes the number of the refusal to `*refused`, and a store hands it back: 0 for none; 4 a lane not below the lane count; 5 a shuffle index above 31; 7 an access
+ * past the end. The value is 0 then, and memory is as it was.
+ *
+ * No call needs anything of its numbers. Of its pointers it needs what a reference of Rust needs: each points to as many elements as it says, is not null (where the
+ * length is 0 too) and is aligned; what is written through one, nothing else reads or writes until the call returns.
+ *
+ * The line above a declaration is the function's promise, over the definitions of crates/standard/specs. There `number` is the number of a vector's 128 bits, and `r` is
+ * what comes back.
+ */
+#ifndef GATULEFO_H
+#define GATULEFO_H
+
+#include <stdbool.h>
+#include <stddef.h>
+#include <stdint.h>
+
+#ifdef __cplusplus
+extern "C" {
+#endif
+
+/* The 128 bits of a vector, low half first: byte 0 is the low byte of `lo`. Its layout is C's, so that another language can hand one over. */
+typedef struct {
+    uint64_t lo;
+    uint64_t hi;
+} gatulefo_v128;
+
+/* The calculator's scalar. Kind 1 is an i32, 2 an i64, 3 an f32, 4 an f64, and any other stands for 1; of a kind of 32 bits the low bits count. */
+typedef struct {
+    uint8_t kind;
+    uint64_t bits;
+} gatulefo_kind_and_bits;
+
+/* What a run leaves beside the registers: the scalar, the steps done, and how it stopped. Paused: the place to take up from. Refused: the number, 1 to 6, 17 or 19; else
+ * 0. Neither: the list has ended. What says nothing is 0. */
+typedef struct {
+    gatulefo_kind_and_bits scalar;
+    size_t done;
+    size_t place;
+    bool paused;
+    uint8_t refused;
+} gatulefo_run_answer;
+
+/* What a step leaves beside the registers: the scalar, and the number of a refusal, 2 to 6; else 0. */
+typedef struct {
+    gatulefo_kind_and_bits scalar;
+    uint8_t refused;
+} gatulefo_step_answer;
+
+/* A position with the distances of the windows there and a frame later; or the number of a refusal: 8 tolerance above 8, 9 length outside 64 to 65,536, 10 buffer
+ * above 65,536 bytes or too short, 11 no such position. The number is 0 where a position is given, and the others are 0 where it is refused. */
+typedef struct {
+    size_t position;
+    uint32_t first;
+    uint32_t second;
+    uint8_t refused;
+} gatulefo_position_or_refusal;
+
+/* Lane by lane integer arithmetic. */
+
+/* number r ≡ binary 64 (iadd 64) (number lhs) (number rhs) */
+gatulefo_v128 gatulefo_i64x2_add(gatulefo_v128 lhs, gatulefo_v128 rhs);
+
+/* number r ≡ binary 32 (iadd 32) (number lhs) (number rhs) */
+gatulefo_v128 gatulefo_i32x4_add(gatulefo_v128 lhs, gatulefo_v128 rhs);
+
+/* number r ≡ binary 16 (iadd 16) (number lhs) (number rhs) */
+gatulefo_v128 gatulefo_i16x8_add(gatulefo_v128 lhs, gatulefo_v128 rhs);
+
+/* number r ≡ binary 8 (iadd 8) (number lhs) (number rhs) */
+gatulefo_v128 gatulefo_i8x16_add(gatulefo_v128 lhs, gatulefo_v128 rhs);
+
+/* number r ≡ binary 64 (isub 64) (number lhs) (number rhs) */
+gatulefo_v128 gatulefo_i64x2_sub(gatulefo_v128 lhs, gatulefo_v128 rhs);
+
+/* number r ≡ binary 32 (isub 32) (number lhs) (number rhs) */
+gatulefo_v128 gatulefo_i32x4_sub(gatulefo_v128 lhs, gatulefo_v128 rhs);
+
+/* number r ≡ binary 16 (isub 16) (number lhs) (number rhs) */
+gatulefo_v128 gatulefo_i16x8_sub(gatulefo_v128 lhs, gatulefo_v128 rhs);
+
+/* number r ≡ binary 8 (isub 8) (number lhs) (number rhs) */
+gatulefo_v128 gatulefo_i8x16_sub(gatulefo_v128 lhs, gatulefo_v128 rhs);
+
+/* number r ≡ binary 64 (imul 64) (number lhs) (number rhs) */
+gatulefo_v128 gatulefo_i64x2_mul(gatulefo_v128 lhs, gatulefo_v128 rhs);
+
+/* number r ≡ binary 32 (imul 32) (number lhs) (number rhs) */
+gatulefo_v128 gatulefo_i32x4_mul(gatulefo_v128 lhs, gatulefo_v128 rhs);
+
+/* number r ≡ binary 16 (imul 16) (number lhs) (number rhs) */
+gatulefo_v128 gatulefo_i16x8_mul(gatulefo_v128 lhs, gatulefo_v128 rhs);
+
+/* number r ≡ binary 8 (imul 8) (number lhs) (number rhs) */
+gatulefo_v128 gatulefo_i8x16_mul(gatulefo_v128 lhs, gatulefo_v128 rhs);
+
+/* number r ≡ binary 8 (iadd-sat-s 8) (number lhs) (number rhs) */
+gatulefo_v128 gatulefo_i8x16_add_sat_s(gatulefo_v128 lhs, gatulefo_v128 rhs);
+
+/* number r ≡ binary 8 (iadd-sat-u 8) (number lhs) (number rhs) */
+gatulefo_v128 gatulefo_i8x16_add_sat_u(gatulefo_v128 lhs, gatulefo_v128 rhs);
+
+/* number r ≡ binary 16 (iadd-sat-s 16) (number lhs) (number rhs) */
+gatulefo_v128 gatulefo_i16x8_add_sat_s(gatulefo_v128 lhs, gatulefo_v128 rhs);
+
+/* number r ≡ binary 16 (iadd-sat-u 16) (number lhs) (number rhs) */
+gatulefo_v128 gatulefo_i16x8_add_sat_u(gatulefo_v128 lhs, gatulefo_v128 rhs);
+
+/* number r ≡ binary 8 (isub-sat-s 8) (number lhs) (number rhs) */
+gatulefo_v128 gatulefo_i8x16_sub_sat_s(gatulefo_v128 lhs, gatulefo_v128 rhs);
+
+/* number r ≡ binary 8 (isub-sat-u 8) (number lhs) (number rhs) */
+gatulefo_v128 gatulefo_i8x16_sub_sat_u(gatulefo_v128 lhs, gatulefo_v128 rhs);
+
+/* number r ≡ binary 16 (isub-sat-s 16) (number lhs) (number rhs) */
+gatulefo_v128 gatulefo_i16x8_sub_sat_s(gatulefo_v128 lhs, gatulefo_v128 rhs);
+
+/* number r ≡ binary 16 (isub-sat-u 16) (number lhs) (number rhs) */
+gatulefo_v128 gatulefo_i16x8_sub_sat_u(gatulefo_v128 lhs, gatulefo_v128 rhs);
+
+/* number r ≡ binary 16 (iq15mulrsat-s 16) (number lhs) (number rhs) */
+gatulefo_v128 gatulefo_i16x8_q15mulr_sat_s(gatulefo_v128 lhs, gatulefo_v128 rhs);
+
+/* number r ≡ binary 8 (imin-s 8) (number lhs) (number rhs) */
+gatulefo_v128 gatulefo_i8x16_min_s(gatulefo_v128 lhs, gatulefo_v128 rhs);
+
+/* number r ≡ binary 8 (imin-u 8) (number lhs) (number rhs) */
+gatulefo_v128 gatulefo_i8x16_min_u(gatulefo_v128 lhs, gatulefo_v128 rhs);
+
+/* number r ≡ binary 16 (imin-s 16) (number lhs) (number rhs) */
+gatulefo_v128 gatulefo_i16x8_min_s(gatulefo_v128 lhs, gatulefo_v128 rhs);
+
+/* number r ≡ binary 16 (imin-u 16) (number lhs) (number rhs) */
+gatulefo_v128 gatulefo_i16x8_min_u(gatulefo_v128 lhs, gatulefo_v128 rhs);
+
+/* number r ≡ binary 32 (imin-s 32) (number lhs) (number rhs) */
+gatulefo_v128 gatulefo_i32x4_min_s(gatulefo_v128 lhs, gatulefo_v128 rhs);
+
+/* number r ≡ binary 32 (imin-u 32) (number lhs) (number rhs) */
+gatulefo_v128 gatulefo_i32x4_min_u(gatulefo_v128 lhs, gatulefo_v128 rhs);
+
+/* number r ≡ binary 8 (imax-s 8) (number lhs) (number rhs) */
+gatulefo_v128 gatulefo_i8x16_max_s(gatulefo_v128 lhs, gatulefo_v128 rhs);
+
+/* number r ≡ binary 8 (imax-u 8) (number lhs) (number rhs) */
+gatulefo_v128 gatulefo_i8x16_max_u(gatulefo_v128 lhs, gatulefo_v128 rhs);
+
+/* number r ≡ binary 16 (imax-s 16) (number lhs) (number rhs) */
+gatulefo_v128 gatulefo_i16x8_max_s(gatulefo_v128 lhs, gatulefo_v128 rhs);
+
+/* number r ≡ binary 16 (imax-u 16) (number lhs) (number rhs) */
+gatulefo_v128 gatulefo_i16x8_max_u(gatulefo_v128 lhs, gatulefo_v128 rhs);
+
+/* number r ≡ binary 32 (imax-s 32) (number lhs) (number rhs) */
+gatulefo_v128 gatulefo_i32x4_max_s(gatulefo_v128 lhs, gatulefo_v128 rhs);
+
+/* number r ≡ binary 32 (imax-u 32) (number lhs) (number rhs) */
+gatulefo_v128 gatulefo_i32x4_max_u(gatulefo_v128 lhs, gatulefo_v128 rhs);
+
+/* number r ≡ binary 8 (iavgr-u 8) (number lhs) (number rhs) */
+gatulefo_v128 gatulefo_i8x16_avgr_u(gatulefo_v128 lhs, gatulefo_v128 rhs);
+
+/* number r ≡ binary 16 (iavgr-u 16) (number lhs) (number rhs) */
+gatulefo_v128 gatulefo_i16x8_avgr_u(gatulefo_v128 lhs, gatulefo_v128 rhs);
+
+/* number r ≡ unary 64 (ineg 64) (number v) */
+gatulefo_v128 gatulefo_i64x2_neg(gatulefo_v128 v);
+
+/* number r ≡ unary 32 (ineg 32) (number v) */
+gatulefo_v128 gatulefo_i32x4_neg(gatulefo_v128 v);
+
+/* number r ≡ unary 16 (ineg 16) (number v) */
+gatulefo_v128 gatulefo_i16x8_neg(gatulefo_v128 v);
+
+/* number r ≡ unary 8 (ineg 8) (number v) */
+gatulefo_v128 gatulefo_i8x16_neg(gatulefo_v128 v);
+
+/* number r ≡ unary 8 (iabs 8) (number v) */
+gatulefo_v128 gatulefo_i8x16_abs(gatulefo_v128 v);
+
+/* number r ≡ unary 16 (iabs 16) (number v) */
+gatulefo_v128 gatulefo_i16x8_abs(gatulefo_v128 v);
+
+/* number r ≡ unary 32 (iabs 32) (number v) */
+gatulefo_v128 gatulefo_i32x4_abs(gatulefo_v128 v);
+
+/* number r ≡ unary 64 (iabs 64) (number v) */
+gatulefo_v128 gatulefo_i64x2_abs(gatulefo_v128 v);
+
+/* number r ≡ unary 8 (ipopcnt 8) (number v) */
+gatulefo_v128 gatulefo_i8x16_popcnt(gatulefo_v128 v);
+
+/* Bitwise operations, on whole halves. */
+
+/* number r ≡ iand 128 (number lhs) (number rhs) */
+gatulefo_v128 gatulefo_v128_and(gatulefo_v128 lhs, gatulefo_v128 rhs);
+
+/* number r ≡ ior 128 (number lhs) (number rhs) */
+gatulefo_v128 gatulefo_v128_or(gatulefo_v128 lhs, gatulefo_v128 rhs);
+
+/* number r ≡ ixor 128 (number lhs) (number rhs) */
+gatulefo_v128 gatulefo_v128_xor(gatulefo_v128 lhs, gatulefo_v128 rhs);
+
+/* number r ≡ iandnot 128 (number lhs) (number rhs) */
+gatulefo_v128 gatulefo_v128_andnot(gatulefo_v128 lhs, gatulefo_v128 rhs);
+
+/* number r ≡ inot 128 (number v) */
+gatulefo_v128 gatulefo_v128_not(gatulefo_v128 v);
+
+/* number r ≡ ibitselect 128 (number v1) (number v2) (number c) */
+gatulefo_v128 gatulefo_v128_bitselect(gatulefo_v128 v1, gatulefo_v128 v2, gatulefo_v128 c);
+
+/* The calculator (document 01, "The calculator (added)"; document 02, orders 1, 2 and 12): a run of a list of steps from a place under a limit. The registers are 32
+ * words, two a register, low half first; beside each stands the number of the step that wrote it. */
+
+/* Performs an operation by its number: the step of 32 bytes, as the one at a place of a list, counted from 0. A step that is refused changes nothing.
+ * step-numbers (vectors (now (registers .exit))) (now (writers .exit)) r ≡ left-by-step (machine-held (now (registers .entry)) (now (writers .entry)) (scalar .kind) (scalar .bits)) (Definition.step place (machine-held (now (registers .entry)) (now (writers .entry)) (scalar .kind) (scalar .bits)) (now (step .entry))) */
+gatulefo_step_answer gatulefo_step(uint64_t registers[32], uint16_t writers[16], gatulefo_kind_and_bits scalar, uint8_t place, const uint8_t *step, size_t step_length);
+
+/* Runs the list from a place, at most `limit` steps of it. The registers and the numbers beside them are left as the run leaves them.
+ * (vectors (now (registers .exit)), now (writers .exit), run-numbers r) ≡ left-by-run (Definition.run (now (list .entry)) place limit (machine-held (now (registers .entry)) (now (writers .entry)) (scalar .kind) (scalar .bits))) */
+gatulefo_run_answer gatulefo_run(uint64_t registers[32], uint16_t writers[16], gatulefo_kind_and_bits scalar, const uint8_t *list, size_t list_length, size_t place, size_t limit);
+
+/* Lane by lane integer comparison: all ones or all zeros. */
+
+/* number r ≡ binary 8 (ieq 8) (number lhs) (number rhs) */
+gatulefo_v128 gatulefo_i8x16_eq(gatulefo_v128 lhs, gatulefo_v128 rhs);
+
+/* number r ≡ binary 16 (ieq 16) (number lhs) (number rhs) */
+gatulefo_v128 gatulefo_i16x8_eq(gatulefo_v128 lhs, gatulefo_v128 rhs);
+
+/* number r ≡ binary 32 (ieq 32) (number lhs) (number rhs) */
+gatulefo_v128 gatulefo_i32x4_eq(gatulefo_v128 lhs, gatulefo_v128 rhs);
+
+/* number r ≡ binary 64 (ieq 64) (number lhs) (number rhs) */
+gatulefo_v128 gatulefo_i64x2_eq(gatulefo_v128 lhs, gatulefo_v128 rhs);
+
+/* number r ≡ binary 8 (ine 8) (number lhs) (number rhs) */
+gatulefo_v128 gatulefo_i8x16_ne(gatulefo_v128 lhs, gatulefo_v128 rhs);
+
+/* number r ≡ binary 16 (ine 16) (number lhs) (number rhs) */
+gatulefo_v128 gatulefo_i16x8_ne(gatulefo_v128 lhs, gatulefo_v128 rhs);
+
+/* number r ≡ binary 32 (ine 32) (number lhs) (number rhs) */
+gatulefo_v128 gatulefo_i32x4_ne(gatulefo_v128 lhs, gatulefo_v128 rhs);
+
+/* number r ≡ binary 64 (ine 64) (number lhs) (number rhs) */
+gatulefo_v128 gatulefo_i64x2_ne(gatulefo_v128 lhs, gatulefo_v128 rhs);
+
+/* number r ≡ binary 8 (ilt-s 8) (number lhs) (number rhs) */
+gatulefo_v128 gatulefo_i8x16_lt_s(gatulefo_v128 lhs, gatulefo_v128 rhs);
+
+/* number r ≡ binary 8 (ilt-u 8) (number lhs) (number rhs) */
+gatulefo_v128 gatulefo_i8x16_lt_u(gatulefo_v128 lhs, gatulefo_v128 rhs);
+
+/* number r ≡ binary 16 (ilt-s 16) (number lhs) (number rhs) */
+gatulefo_v128 gatulefo_i16x8_lt_s(gatulefo_v128 lhs, gatulefo_v128 rhs);
+
+/* number r ≡ binary 16 (ilt-u 16) (number lhs) (number rhs) */
+gatulefo_v128 gatulefo_i16x8_lt_u(gatulefo_v128 lhs, gatulefo_v128 rhs);
+
+/* number r ≡ binary 32 (ilt-s 32) (number lhs) (number rhs) */
+gatulefo_v128 gatulefo_i32x4_lt_s(gatulefo_v128 lhs, gatulefo_v128 rhs);
+
+/* number r ≡ binary 32 (ilt-u 32) (number lhs) (number rhs) */
+gatulefo_v128 gatulefo_i32x4_lt_u(gatulefo_v128 lhs, gatulefo_v128 rhs);
+
+/* number r ≡ binary 64 (ilt-s 64) (number lhs) (number rhs) */
+gatulefo_v128 gatulefo_i64x2_lt_s(gatulefo_v128 lhs, gatulefo_v128 rhs);
+
+/* number r ≡ binary 8 (ile-s 8) (number lhs) (number rhs) */
+gatulefo_v128 gatulefo_i8x16_le_s(gatulefo_v128 lhs, gatulefo_v128 rhs);
+
+/* number r ≡ binary 8 (ile-u 8) (number lhs) (number rhs) */
+gatulefo_v128 gatulefo_i8x16_le_u(gatulefo_v128 lhs, gatulefo_v128 rhs);
+
+/* number r ≡ binary 16 (ile-s 16) (number lhs) (number rhs) */
+gatulefo_v128 gatulefo_i16x8_le_s(gatulefo_v128 lhs, gatulefo_v128 rhs);
+
+/* number r ≡ binary 16 (ile-u 16) (number lhs) (number rhs) */
+gatulefo_v128 gatulefo_i16x8_le_u(gatulefo_v128 lhs, gatulefo_v128 rhs);
+
+/* number r ≡ binary 32 (ile-s 32) (number lhs) (number rhs) */
+gatulefo_v128 gatulefo_i32x4_le_s(gatulefo_v128 lhs, gatulefo_v128 rhs);
+
+/* number r ≡ binary 32 (ile-u 32) (number lhs) (number rhs) */
+gatulefo_v128 gatulefo_i32x4_le_u(gatulefo_v128 lhs, gatulefo_v128 rhs);
+
+/* number r ≡ binary 64 (ile-s 64) (number lhs) (number rhs) */
+gatulefo_v128 gatulefo_i64x2_le_s(gatulefo_v128 lhs, gatulefo_v128 rhs);
+
+/* number r ≡ binary 8 (igt-s 8) (number lhs) (number rhs) */
+gatulefo_v128 gatulefo_i8x16_gt_s(gatulefo_v128 lhs, gatulefo_v128 rhs);
+
+/* number r ≡ binary 8 (igt-u 8) (number lhs) (number rhs) */
+gatulefo_v128 gatulefo_i8x16_gt_u(gatulefo_v128 lhs, gatulefo_v128 rhs);
+
+/* number r ≡ binary 16 (igt-s 16) (number lhs) (number rhs) */
+gatulefo_v128 gatulefo_i16x8_gt_s(gatulefo_v128 lhs, gatulefo_v128 rhs);
+
+/* number r ≡ binary 16 (igt-u 16) (number lhs) (number rhs) */
+gatulefo_v128 gatulefo_i16x8_gt_u(gatulefo_v128 lhs, gatulefo_v128 rhs);
+
+/* number r ≡ binary 32 (igt-s 32) (number lhs) (number rhs) */
+gatulefo_v128 gatulefo_i32x4_gt_s(gatulefo_v128 lhs, gatulefo_v128 rhs);
+
+/* number r ≡ binary 32 (igt-u 32) (number lhs) (number rhs) */
+gatulefo_v128 gatulefo_i32x4_gt_u(gatulefo_v128 lhs, gatulefo_v128 rhs);
+
+/* number r ≡ binary 64 (igt-s 64) (number lhs) (number rhs) */
+gatulefo_v128 gatulefo_i64x2_gt_s(gatulefo_v128 lhs, gatulefo_v128 rhs);
+
+/* number r ≡ binary 8 (ige-s 8) (number lhs) (number rhs) */
+gatulefo_v128 gatulefo_i8x16_ge_s(gatulefo_v128 lhs, gatulefo_v128 rhs);
+
+/* number r ≡ binary 8 (ige-u 8) (number lhs) (number rhs) */
+gatulefo_v128 gatulefo_i8x16_ge_u(gatulefo_v128 lhs, gatulefo_v128 rhs);
+
+/* number r ≡ binary 16 (ige-s 16) (number lhs) (number rhs) */
+gatulefo_v128 gatulefo_i16x8_ge_s(gatulefo_v128 lhs, gatulefo_v128 rhs);
+
+/* number r ≡ binary 16 (ige-u 16) (number lhs) (number rhs) */
+gatulefo_v128 gatulefo_i16x8_ge_u(gatulefo_v128 lhs, gatulefo_v128 rhs);
+
+/* number r ≡ binary 32 (ige-s 32) (number lhs) (number rhs) */
+gatulefo_v128 gatulefo_i32x4_ge_s(gatulefo_v128 lhs, gatulefo_v128 rhs);
+
+/* number r ≡ binary 32 (ige-u 32) (number lhs) (number rhs) */
+gatulefo_v128 gatulefo_i32x4_ge_u(gatulefo_v128 lhs, gatulefo_v128 rhs);
+
+/* number r ≡ binary 64 (ige-s 64) (number lhs) (number rhs) */
+gatulefo_v128 gatulefo_i64x2_ge_s(gatulefo_v128 lhs, gatulefo_v128 rhs);
+
+/* Lanes in another format: floats rounded to whole numbers, lanes converted between whole numbers and floats and between the float formats. The conversions
+ * between 32 and 64 bits take the low lanes, or leave zeros above. */
+
+/* number r ≡ unary 32 (fceil binary32) (number v) */
+gatulefo_v128 gatulefo_f32x4_ceil(gatulefo_v128 v);
+
+/* number r ≡ unary 64 (fceil binary64) (number v) */
+gatulefo_v128 gatulefo_f64x2_ceil(gatulefo_v128 v);
+
+/* number r ≡ unary 32 (ffloor binary32) (number v) */
+gatulefo_v128 gatulefo_f32x4_floor(gatulefo_v128 v);
+
+/* number r ≡ unary 64 (ffloor binary64) (number v) */
+gatulefo_v128 gatulefo_f64x2_floor(gatulefo_v128 v);
+
+/* number r ≡ unary 32 (ftrunc binary32) (number v) */
+gatulefo_v128 gatulefo_f32x4_trunc(gatulefo_v128 v);
+
+/* number r ≡ unary 64 (ftrunc binary64) (number v) */
+gatulefo_v128 gatulefo_f64x2_trunc(gatulefo_v128 v);
+
+/* number r ≡ unary 32 (fnearest binary32) (number v) */
+gatulefo_v128 gatulefo_f32x4_nearest(gatulefo_v128 v);
+
+/* number r ≡ unary 64 (fnearest binary64) (number v) */
+gatulefo_v128 gatulefo_f64x2_nearest(gatulefo_v128 v);
+
+/* number r ≡ unary 32 (convert-s binary32) (number v) */
+gatulefo_v128 gatulefo_f32x4_convert_i32x4_s(gatulefo_v128 v);
+
+/* number r ≡ unary 32 (convert-u binary32) (number v) */
+gatulefo_v128 gatulefo_f32x4_convert_i32x4_u(gatulefo_v128 v);
+
+/* number r ≡ unary 32 (trunc-sat-s binary32) (number v) */
+gatulefo_v128 gatulefo_i32x4_trunc_sat_f32x4_s(gatulefo_v128 v);
+
+/* number r ≡ unary 32 (trunc-sat-u binary32) (number v) */
+gatulefo_v128 gatulefo_i32x4_trunc_sat_f32x4_u(gatulefo_v128 v);
+
+/* number r ≡ convert-low (convert-s binary64) (number v) */
+gatulefo_v128 gatulefo_f64x2_convert_low_i32x4_s(gatulefo_v128 v);
+
+/* number r ≡ convert-low (convert-u binary64) (number v) */
+gatulefo_v128 gatulefo_f64x2_convert_low_i32x4_u(gatulefo_v128 v);
+
+/* number r ≡ convert-low promote (number v) */
+gatulefo_v128 gatulefo_f64x2_promote_low_f32x4(gatulefo_v128 v);
+
+/* number r ≡ convert-zero (trunc-sat-s binary64) (number v) */
+gatulefo_v128 gatulefo_i32x4_trunc_sat_f64x2_s_zero(gatulefo_v128 v);
+
+/* number r ≡ convert-zero (trunc-sat-u binary64) (number v) */
+gatulefo_v128 gatulefo_i32x4_trunc_sat_f64x2_u_zero(gatulefo_v128 v);
+
+/* number r ≡ convert-zero demote (number v) */
+gatulefo_v128 gatulefo_f32x4_demote_f64x2_zero(gatulefo_v128 v);
+
+/* Extract: the lane at a number below the lane count; any other number is refused with 4. */
+
+/* (r, now (refused .exit)) ≡ pair (at-lane 64 lane (extract 64 (number v) lane)) */
+uint64_t gatulefo_i64x2_extract_lane(gatulefo_v128 v, uint8_t lane, uint8_t *refused);
+
+/* (r, now (refused .exit)) ≡ pair (at-lane 32 lane (extract 32 (number v) lane)) */
+uint32_t gatulefo_i32x4_extract_lane(gatulefo_v128 v, uint8_t lane, uint8_t *refused);
+
+/* (r, now (refused .exit)) ≡ pair (at-lane 64 lane (extract 64 (number v) lane)) */
+uint64_t gatulefo_f64x2_extract_lane(gatulefo_v128 v, uint8_t lane, uint8_t *refused);
+
+/* (r, now (refused .exit)) ≡ pair (at-lane 32 lane (extract 32 (number v) lane)) */
+uint32_t gatulefo_f32x4_extract_lane(gatulefo_v128 v, uint8_t lane, uint8_t *refused);
+
+/* (r, now (refused .exit)) ≡ pair (at-lane 8 lane (extend-s 8 32 (extract 8 (number v) lane))) */
+uint32_t gatulefo_i8x16_extract_lane_s(gatulefo_v128 v, uint8_t lane, uint8_t *refused);
+
+/* (r, now (refused .exit)) ≡ pair (at-lane 8 lane (extract 8 (number v) lane)) */
+uint32_t gatulefo_i8x16_extract_lane_u(gatulefo_v128 v, uint8_t lane, uint8_t *refused);
+
+/* (r, now (refused .exit)) ≡ pair (at-lane 16 lane (extend-s 16 32 (extract 16 (number v) lane))) */
+uint32_t gatulefo_i16x8_extract_lane_s(gatulefo_v128 v, uint8_t lane, uint8_t *refused);
+
+/* (r, now (refused .exit)) ≡ pair (at-lane 16 lane (extract 16 (number v) lane)) */
+uint32_t gatulefo_i16x8_extract_lane_u(gatulefo_v128 v, uint8_t lane, uint8_t *refused);
+
+/* The marker finder (document 02, order 5): the smallest bit position at which a marker stands and stands again one frame later. */
+
+/* Where the marker stands in the buffer, each of its two windows off by at most `tolerance` bits, in frames of `length` bits.
+ * position-numbers r ≡ finding (find (now (buffer .entry)) marker tolerance length) */
+gatulefo_position_or_refusal gatulefo_find(const uint8_t *buffer, size_t buffer_length, uint32_t marker, uint32_t tolerance, uint32_t length);
+
+/* Float lanes: the six comparisons, negation and absolute value on bits, pmin and pmax, arithmetic. Comparison is all ones or all zeros. */
+
+/* number r ≡ binary 32 (fmin binary32) (number lhs) (number rhs) */
+gatulefo_v128 gatulefo_f32x4_min(gatulefo_v128 lhs, gatulefo_v128 rhs);
+
+/* number r ≡ binary 64 (fmin binary64) (number lhs) (number rhs) */
+gatulefo_v128 gatulefo_f64x2_min(gatulefo_v128 lhs, gatulefo_v128 rhs);
+
+/* number r ≡ binary 32 (fmax binary32) (number lhs) (number rhs) */
+gatulefo_v128 gatulefo_f32x4_max(gatulefo_v128 lhs, gatulefo_v128 rhs);
+
+/* number r ≡ binary 64 (fmax binary64) (number lhs) (number rhs) */
+gatulefo_v128 gatulefo_f64x2_max(gatulefo_v128 lhs, gatulefo_v128 rhs);
+
+/* number r ≡ binary 32 (fpmin binary32) (number lhs) (number rhs) */
+gatulefo_v128 gatulefo_f32x4_pmin(gatulefo_v128 lhs, gatulefo_v128 rhs);
+
+/* number r ≡ binary 64 (fpmin binary64) (number lhs) (number rhs) */
+gatulefo_v128 gatulefo_f64x2_pmin(gatulefo_v128 lhs, gatulefo_v128 rhs);
+
+/* number r ≡ binary 32 (fpmax binary32) (number lhs) (number rhs) */
+gatulefo_v128 gatulefo_f32x4_pmax(gatulefo_v128 lhs, gatulefo_v128 rhs);
+
+/* number r ≡ binary 64 (fpmax binary64) (number lhs) (number rhs) */
+gatulefo_v128 gatulefo_f64x2_pmax(gatulefo_v128 lhs, gatulefo_v128 rhs);
+
+/* number r ≡ binary 32 (fadd binary32) (number lhs) (number rhs) */
+gatulefo_v128 gatulefo_f32x4_add(gatulefo_v128 lhs, gatulefo_v128 rhs);
+
+/* number r ≡ binary 64 (fadd binary64) (number lhs) (number rhs) */
+gatulefo_v128 gatulefo_f64x2_add(gatulefo_v128 lhs, gatulefo_v128 rhs);
+
+/* number r ≡ binary 32 (fsub binary32) (number lhs) (number rhs) */
+gatulefo_v128 gatulefo_f32x4_sub(gatulefo_v128 lhs, gatulefo_v128 rhs);
+
+/* number r ≡ binary 64 (fsub binary64) (number lhs) (number rhs) */
+gatulefo_v128 gatulefo_f64x2_sub(gatulefo_v128 lhs, gatulefo_v128 rhs);
+
+/* number r ≡ binary 32 (fdiv binary32) (number lhs) (number rhs) */
+gatulefo_v128 gatulefo_f32x4_div(gatulefo_v128 lhs, gatulefo_v128 rhs);
+
+/* number r ≡ binary 64 (fdiv binary64) (number lhs) (number rhs) */
+gatulefo_v128 gatulefo_f64x2_div(gatulefo_v128 lhs, gatulefo_v128 rhs);
+
+/* number r ≡ binary 32 (fmul binary32) (number lhs) (number rhs) */
+gatulefo_v128 gatulefo_f32x4_mul(gatulefo_v128 lhs, gatulefo_v128 rhs);
+
+/* number r ≡ binary 64 (fmul binary64) (number lhs) (number rhs) */
+gatulefo_v128 gatulefo_f64x2_mul(gatulefo_v128 lhs, gatulefo_v128 rhs);
+
+/* number r ≡ unary 32 (fneg binary32) (number v) */
+gatulefo_v128 gatulefo_f32x4_neg(gatulefo_v128 v);
+
+/* number r ≡ unary 64 (fneg binary64) (number v) */
+gatulefo_v128 gatulefo_f64x2_neg(gatulefo_v128 v);
+
+/* number r ≡ unary 32 (fabs binary32) (number v) */
+gatulefo_v128 gatulefo_f32x4_abs(gatulefo_v128 v);
+
+/* number r ≡ unary 64 (fabs binary64) (number v) */
+gatulefo_v128 gatulefo_f64x2_abs(gatulefo_v128 v);
+
+/* number r ≡ binary 32 (feq binary32) (number lhs) (number rhs) */
+gatulefo_v128 gatulefo_f32x4_eq(gatulefo_v128 lhs, gatulefo_v128 rhs);
+
+/* number r ≡ binary 64 (feq binary64) (number lhs) (number rhs) */
+gatulefo_v128 gatulefo_f64x2_eq(gatulefo_v128 lhs, gatulefo_v128 rhs);
+
+/* number r ≡ binary 32 (fne binary32) (number lhs) (number rhs) */
+gatulefo_v128 gatulefo_f32x4_ne(gatulefo_v128 lhs, gatulefo_v128 rhs);
+
+/* number r ≡ binary 64 (fne binary64) (number lhs) (number rhs) */
+gatulefo_v128 gatulefo_f64x2_ne(gatulefo_v128 lhs, gatulefo_v128 rhs);
+
+/* number r ≡ binary 32 (flt binary32) (number lhs) (number rhs) */
+gatulefo_v128 gatulefo_f32x4_lt(gatulefo_v128 lhs, gatulefo_v128 rhs);
+
+/* number r ≡ binary 64 (flt binary64) (number lhs) (number rhs) */
+gatulefo_v128 gatulefo_f64x2_lt(gatulefo_v128 lhs, gatulefo_v128 rhs);
+
+/* number r ≡ binary 32 (fle binary32) (number lhs) (number rhs) */
+gatulefo_v128 gatulefo_f32x4_le(gatulefo_v128 lhs, gatulefo_v128 rhs);
+
+/* number r ≡ binary 64 (fle binary64) (number lhs) (number rhs) */
+gatulefo_v128 gatulefo_f64x2_le(gatulefo_v128 lhs, gatulefo_v128 rhs);
+
+/* number r ≡ binary 32 (fgt binary32) (number lhs) (number rhs) */
+gatulefo_v128 gatulefo_f32x4_gt(gatulefo_v128 lhs, gatulefo_v128 rhs);
+
+/* number r ≡ binary 64 (fgt binary64) (number lhs) (number rhs) */
+gatulefo_v128 gatulefo_f64x2_gt(gatulefo_v128 lhs, gatulefo_v128 rhs);
+
+/* number r ≡ binary 32 (fge binary32) (number lhs) (number rhs) */
+gatulefo_v128 gatulefo_f32x4_ge(gatulefo_v128 lhs, gatulefo_v128 rhs);
+
+/* number r ≡ binary 64 (fge binary64) (number lhs) (number rhs) */
+gatulefo_v128 gatulefo_f64x2_ge(gatulefo_v128 lhs, gatulefo_v128 rhs);
+
+/* Loads. A lane load tests the lane, 4, before the bounds, 7. */
+
+/* (number r, now (refused .exit)) ≡ access-pair (load 16 (now (memory .entry)) (ptr + offset)) */
+gatulefo_v128 gatulefo_v128_load(const uint8_t *memory, size_t memory_length, uint64_t ptr, uint64_t offset, uint8_t *refused);
+
+/* (number r, now (refused .exit)) ≡ access-pair (load 16 (now (memory .entry)) address) */
+gatulefo_v128 gatulefo_v128_load_at(const uint8_t *memory, size_t memory_length, size_t address, uint8_t *refused);
+
+/* (number r, now (refused .exit)) ≡ access-pair (load 4 (now (memory .entry)) (ptr + offset)) */
+gatulefo_v128 gatulefo_v128_load32_zero(const uint8_t *memory, size_t memory_length, uint64_t ptr, uint64_t offset, uint8_t *refused);
+
+/* (number r, now (refused .exit)) ≡ access-pair (load 8 (now (memory .entry)) (ptr + offset)) */
+gatulefo_v128 gatulefo_v128_load64_zero(const uint8_t *memory, size_t memory_length, uint64_t ptr, uint64_t offset, uint8_t *refused);
+
+/* (number r, now (refused .exit)) ≡ access-pair (load 4 (now (memory .entry)) address) */
+gatulefo_v128 gatulefo_v128_load32_zero_at(const uint8_t *memory, size_t memory_length, size_t address, uint8_t *refused);
+
+/* (number r, now (refused .exit)) ≡ access-pair (load 8 (now (memory .entry)) address) */
+gatulefo_v128 gatulefo_v128_load64_zero_at(const uint8_t *memory, size_t memory_length, size_t address, uint8_t *refused);
+
+/* (number r, now (refused .exit)) ≡ access-pair (load-splat 8 (now (memory .entry)) (ptr + offset)) */
+gatulefo_v128 gatulefo_v128_load8_splat(const uint8_t *memory, size_t memory_length, uint64_t ptr, uint64_t offset, uint8_t *refused);
+
+/* (number r, now (refused .exit)) ≡ access-pair (load-splat 16 (now (memory .entry)) (ptr + offset)) */
+gatulefo_v128 gatulefo_v128_load16_splat(const uint8_t *memory, size_t memory_length, uint64_t ptr, uint64_t offset, uint8_t *refused);
+
+/* (number r, now (refused .exit)) ≡ access-pair (load-splat 32 (now (memory .entry)) (ptr + offset)) */
+gatulefo_v128 gatulefo_v128_load32_splat(const uint8_t *memory, size_t memory_length, uint64_t ptr, uint64_t offset, uint8_t *refused);
+
+/* (number r, now (refused .exit)) ≡ access-pair (load-splat 64 (now (memory .entry)) (ptr + offset)) */
+gatulefo_v128 gatulefo_v128_load64_splat(const uint8_t *memory, size_t memory_length, uint64_t ptr, uint64_t offset, uint8_t *refused);
+
+/* (number r, now (refused .exit)) ≡ access-pair (load-splat 8 (now (memory .entry)) address) */
+gatulefo_v128 gatulefo_v128_load8_splat_at(const uint8_t *memory, size_t memory_length, size_t address, uint8_t *refused);
+
+/* (number r, now (refused .exit)) ≡ access-pair (load-splat 16 (now (memory .entry)) address) */
+gatulefo_v128 gatulefo_v128_load16_splat_at(const uint8_t *memory, size_t memory_length, size_t address, uint8_t *refused);
+
+/* (number r, now (refused .exit)) ≡ access-pair (load-splat 32 (now (memory .entry)) address) */
+gatulefo_v128 gatulefo_v128_load32_splat_at(const uint8_t *memory, size_t memory_length, size_t address, uint8_t *refused);
+
+/* (number r, now (refused .exit)) ≡ access-pair (load-splat 64 (now (memory .entry)) address) */
+gatulefo_v128 gatulefo_v128_load64_splat_at(const uint8_t *memory, size_t memory_length, size_t address, uint8_t *refused);
+
+/* (number r, now (refused .exit)) ≡ access-pair (load-lane 8 (number x) lane (now (memory .entry)) (ptr + offset)) */
+gatulefo_v128 gatulefo_v128_load8_lane(const uint8_t *memory, size_t memory_length, uint64_t ptr, uint64_t offset, gatulefo_v128 x, uint8_t lane, uint8_t *refused);
+
+/* (number r, now (refused .exit)) ≡ access-pair (load-lane 16 (number x) lane (now (memory .entry)) (ptr + offset)) */
+gatulefo_v128 gatulefo_v128_load16_lane(const uint8_t *memory, size_t memory_length, uint64_t ptr, uint64_t offset, gatulefo_v128 x, uint8_t lane, uint8_t *refused);
+
+/* (number r, now (refused .exit)) ≡ access-pair (load-lane 32 (number x) lane (now (memory .entry)) (ptr + offset)) */
+gatulefo_v128 gatulefo_v128_load32_lane(const uint8_t *memory, size_t memory_length, uint64_t ptr, uint64_t offset, gatulefo_v128 x, uint8_t lane, uint8_t *refused);
+
+/* (number r, now (refused .exit)) ≡ access-pair (load-lane 64 (number x) lane (now (memory .entry)) (ptr + offset)) */
+gatulefo_v128 gatulefo_v128_load64_lane(const uint8_t *memory, size_t memory_length, uint64_t ptr, uint64_t offset, gatulefo_v128 x, uint8_t lane, uint8_t *refused);
+
+/* (number r, now (refused .exit)) ≡ access-pair (load-lane 8 (number x) lane (now (memory .entry)) address) */
+gatulefo_v128 gatulefo_v128_load8_lane_at(const uint8_t *memory, size_t memory_length, size_t address, gatulefo_v128 x, uint8_t lane, uint8_t *refused);
+
+/* (number r, now (refused .exit)) ≡ access-pair (load-lane 16 (number x) lane (now (memory .entry)) address) */
+gatulefo_v128 gatulefo_v128_load16_lane_at(const uint8_t *memory, size_t memory_length, size_t address, gatulefo_v128 x, uint8_t lane, uint8_t *refused);
+
+/* (number r, now (refused .exit)) ≡ access-pair (load-lane 32 (number x) lane (now (memory .entry)) address) */
+gatulefo_v128 gatulefo_v128_load32_lane_at(const uint8_t *memory, size_t memory_length, size_t address, gatulefo_v128 x, uint8_t lane, uint8_t *refused);
+
+/* (number r, now (refused .exit)) ≡ access-pair (load-lane 64 (number x) lane (now (memory .entry)) address) */
+gatulefo_v128 gatulefo_v128_load64_lane_at(const uint8_t *memory, size_t memory_length, size_t address, gatulefo_v128 x, uint8_t lane, uint8_t *refused);
+
+/* (number r, now (refused .exit)) ≡ access-pair (load-widen extend-s 8 (now (memory .entry)) (ptr + offset)) */
+gatulefo_v128 gatulefo_v128_load8x8_s(const uint8_t *memory, size_t memory_length, uint64_t ptr, uint64_t offset, uint8_t *refused);
+
+/* (number r, now (refused .exit)) ≡ access-pair (load-widen extend-u 8 (now (memory .entry)) (ptr + offset)) */
+gatulefo_v128 gatulefo_v128_load8x8_u(const uint8_t *memory, size_t memory_length, uint64_t ptr, uint64_t offset, uint8_t *refused);
+
+/* (number r, now (refused .exit)) ≡ access-pair (load-widen extend-s 16 (now (memory .entry)) (ptr + offset)) */
+gatulefo_v128 gatulefo_v128_load16x4_s(const uint8_t *memory, size_t memory_length, uint64_t ptr, uint64_t offset, uint8_t *refused);
+
+/* (number r, now (refused .exit)) ≡ access-pair (load-widen extend-u 16 (now (memory .entry)) (ptr + offset)) */
+gatulefo_v128 gatulefo_v128_load16x4_u(const uint8_t *memory, size_t memory_length, uint64_t ptr, uint64_t offset, uint8_t *refused);
+
+/* (number r, now (refused .exit)) ≡ access-pair (load-widen extend-s 32 (now (memory .entry)) (ptr + offset)) */
+gatulefo_v128 gatulefo_v128_load32x2_s(const uint8_t *memory, size_t memory_length, uint64_t ptr, uint64_t offset, uint8_t *refused);
+
+/* (number r, now (refused .exit)) ≡ access-pair (load-widen extend-u 32 (now (memory .entry)) (ptr + offset)) */
+gatulefo_v128 gatulefo_v128_load32x2_u(const uint8_t *memory, size_t memory_length, uint64_t ptr, uint64_t offset, uint8_t *refused);
+
+/* (number r, now (refused .exit)) ≡ access-pair (load-widen extend-s 8 (now (memory .entry)) address) */
+gatulefo_v128 gatulefo_v128_load8x8_s_at(const uint8_t *memory, size_t memory_length, size_t address, uint8_t *refused);
+
+/* (number r, now (refused .exit)) ≡ access-pair (load-widen extend-u 8 (now (memory .entry)) address) */
+gatulefo_v128 gatulefo_v128_load8x8_u_at(const uint8_t *memory, size_t memory_length, size_t address, uint8_t *refused);
+
+/* (number r, now (refused .exit)) ≡ access-pair (load-widen extend-s 16 (now (memory .entry)) address) */
+gatulefo_v128 gatulefo_v128_load16x4_s_at(const uint8_t *memory, size_t memory_length, size_t address, uint8_t *refused);
+
+/* (number r, now (refused .exit)) ≡ access-pair (load-widen extend-u 16 (now (memory .entry)) address) */
+gatulefo_v128 gatulefo_v128_load16x4_u_at(const uint8_t *memory, size_t memory_length, size_t address, uint8_t *refused);
+
+/* (number r, now (refused .exit)) ≡ access-pair (load-widen extend-s 32 (now (memory .entry)) address) */
+gatulefo_v128 gatulefo_v128_load32x2_s_at(const uint8_t *memory, size_t memory_length, size_t address, uint8_t *refused);
+
+/* (number r, now (refused .exit)) ≡ access-pair (load-widen extend-u 32 (now (memory .entry)) address) */
+gatulefo_v128 gatulefo_v128_load32x2_u_at(const uint8_t *memory, size_t memory_length, size_t address, uint8_t *refused);
+
+/* The packed forms: each half as one number, with the answers of the functions of the same names. */
+
+/* number r ≡ binary 64 (iadd 64) (number a) (number b) */
+gatulefo_v128 gatulefo_packed_i64x2_add(gatulefo_v128 a, gatulefo_v128 b);
+
+/* number r ≡ binary 32 (iadd 32) (number a) (number b) */
+gatulefo_v128 gatulefo_packed_i32x4_add(gatulefo_v128 a, gatulefo_v128 b);
+
+/* number r ≡ binary 16 (iadd 16) (number a) (number b) */
+gatulefo_v128 gatulefo_packed_i16x8_add(gatulefo_v128 a, gatulefo_v128 b);
+
+/* number r ≡ binary 8 (iadd 8) (number a) (number b) */
+gatulefo_v128 gatulefo_packed_i8x16_add(gatulefo_v128 a, gatulefo_v128 b);
+
+/* number r ≡ binary 64 (isub 64) (number a) (number b) */
+gatulefo_v128 gatulefo_packed_i64x2_sub(gatulefo_v128 a, gatulefo_v128 b);
+
+/* number r ≡ binary 32 (isub 32) (number a) (number b) */
+gatulefo_v128 gatulefo_packed_i32x4_sub(gatulefo_v128 a, gatulefo_v128 b);
+
+/* number r ≡ binary 16 (isub 16) (number a) (number b) */
+gatulefo_v128 gatulefo_packed_i16x8_sub(gatulefo_v128 a, gatulefo_v128 b);
+
+/* number r ≡ binary 8 (isub 8) (number a) (number b) */
+gatulefo_v128 gatulefo_packed_i8x16_sub(gatulefo_v128 a, gatulefo_v128 b);
+
+/* number r ≡ binary 8 (iavgr-u 8) (number a) (number b) */
+gatulefo_v128 gatulefo_packed_i8x16_avgr_u(gatulefo_v128 a, gatulefo_v128 b);
+
+/* number r ≡ binary 16 (iavgr-u 16) (number a) (number b) */
+gatulefo_v128 gatulefo_packed_i16x8_avgr_u(gatulefo_v128 a, gatulefo_v128 b);
+
+/* number r ≡ unary 64 (ineg 64) (number a) */
+gatulefo_v128 gatulefo_packed_i64x2_neg(gatulefo_v128 a);
+
+/* number r ≡ unary 32 (ineg 32) (number a) */
+gatulefo_v128 gatulefo_packed_i32x4_neg(gatulefo_v128 a);
+
+/* number r ≡ unary 16 (ineg 16) (number a) */
+gatulefo_v128 gatulefo_packed_i16x8_neg(gatulefo_v128 a);
+
+/* number r ≡ unary 8 (ineg 8) (number a) */
+gatulefo_v128 gatulefo_packed_i8x16_neg(gatulefo_v128 a);
+
+/* number r ≡ unary 8 (ipopcnt 8) (number a) */
+gatulefo_v128 gatulefo_packed_i8x16_popcnt(gatulefo_v128 a);
+
+/* number r ≡ binary 8 (ieq 8) (number a) (number b) */
+gatulefo_v128 gatulefo_packed_i8x16_eq(gatulefo_v128 a, gatulefo_v128 b);
+
+/* number r ≡ binary 16 (ieq 16) (number a) (number b) */
+gatulefo_v128 gatulefo_packed_i16x8_eq(gatulefo_v128 a, gatulefo_v128 b);
+
+/* number r ≡ binary 32 (ieq 32) (number a) (number b) */
+gatulefo_v128 gatulefo_packed_i32x4_eq(gatulefo_v128 a, gatulefo_v128 b);
+
+/* number r ≡ binary 64 (ieq 64) (number a) (number b) */
+gatulefo_v128 gatulefo_packed_i64x2_eq(gatulefo_v128 a, gatulefo_v128 b);
+
+/* number r ≡ unary 8 (ishl 8 count) (number a) */
+gatulefo_v128 gatulefo_packed_i8x16_shl(gatulefo_v128 a, uint32_t count);
+
+/* number r ≡ unary 16 (ishl 16 count) (number a) */
+gatulefo_v128 gatulefo_packed_i16x8_shl(gatulefo_v128 a, uint32_t count);
+
+/* number r ≡ unary 32 (ishl 32 count) (number a) */
+gatulefo_v128 gatulefo_packed_i32x4_shl(gatulefo_v128 a, uint32_t count);
+
+/* number r ≡ unary 64 (ishl 64 count) (number a) */
+gatulefo_v128 gatulefo_packed_i64x2_shl(gatulefo_v128 a, uint32_t count);
+
+/* number r ≡ unary 8 (ishr-u 8 count) (number a) */
+gatulefo_v128 gatulefo_packed_i8x16_shr_u(gatulefo_v128 a, uint32_t count);
+
+/* number r ≡ unary 16 (ishr-u 16 count) (number a) */
+gatulefo_v128 gatulefo_packed_i16x8_shr_u(gatulefo_v128 a, uint32_t count);
+
+/* number r ≡ unary 32 (ishr-u 32 count) (number a) */
+gatulefo_v128 gatulefo_packed_i32x4_shr_u(gatulefo_v128 a, uint32_t count);
+
+/* number r ≡ unary 64 (ishr-u 64 count) (number a) */
+gatulefo_v128 gatulefo_packed_i64x2_shr_u(gatulefo_v128 a, uint32_t count);
+
+/* cond r 1 0 ≡ all-true 8 (number a) */
+bool gatulefo_packed_i8x16_all_true(gatulefo_v128 a);
+
+/* cond r 1 0 ≡ all-true 16 (number a) */
+bool gatulefo_packed_i16x8_all_true(gatulefo_v128 a);
+
+/* cond r 1 0 ≡ all-true 32 (number a) */
+bool gatulefo_packed_i32x4_all_true(gatulefo_v128 a);
+
+/* cond r 1 0 ≡ all-true 64 (number a) */
+bool gatulefo_packed_i64x2_all_true(gatulefo_v128 a);
+
+/* r ≡ bitmask 8 (number a) */
+uint32_t gatulefo_packed_i8x16_bitmask(gatulefo_v128 a);
+
+/* r ≡ bitmask 16 (number a) */
+uint32_t gatulefo_packed_i16x8_bitmask(gatulefo_v128 a);
+
+/* r ≡ bitmask 32 (number a) */
+uint32_t gatulefo_packed_i32x4_bitmask(gatulefo_v128 a);
+
+/* r ≡ bitmask 64 (number a) */
+uint32_t gatulefo_packed_i64x2_bitmask(gatulefo_v128 a);
+
+/* cond r 1 0 ≡ any-true (number a) */
+bool gatulefo_packed_v128_any_true(gatulefo_v128 a);
+
+/* Lanes of 8 bits in another order: swizzle by the lanes of a second vector, shuffle of two vectors by sixteen indices. */
+
+/* (number r, now (refused .exit)) ≡ pair (at-indices (now (s .entry)) (shuffle (now (s .entry)) (number a) (number b))) */
+gatulefo_v128 gatulefo_i8x16_shuffle(gatulefo_v128 a, gatulefo_v128 b, const uint8_t s[16], uint8_t *refused);
+
+/* number r ≡ swizzle (number a) (number s) */
+gatulefo_v128 gatulefo_i8x16_swizzle(gatulefo_v128 a, gatulefo_v128 s);
+
+/* Reductions: one number from all lanes of a vector. */
+
+/* cond r 1 0 ≡ all-true 8 (number v) */
+bool gatulefo_i8x16_all_true(gatulefo_v128 v);
+
+/* cond r 1 0 ≡ all-true 16 (number v) */
+bool gatulefo_i16x8_all_true(gatulefo_v128 v);
+
+/* cond r 1 0 ≡ all-true 32 (number v) */
+bool gatulefo_i32x4_all_true(gatulefo_v128 v);
+
+/* cond r 1 0 ≡ all-true 64 (number v) */
+bool gatulefo_i64x2_all_true(gatulefo_v128 v);
+
+/* r ≡ bitmask 8 (number v) */
+uint32_t gatulefo_i8x16_bitmask(gatulefo_v128 v);
+
+/* r ≡ bitmask 16 (number v) */
+uint32_t gatulefo_i16x8_bitmask(gatulefo_v128 v);
+
+/* r ≡ bitmask 32 (number v) */
+uint32_t gatulefo_i32x4_bitmask(gatulefo_v128 v);
+
+/* r ≡ bitmask 64 (number v) */
+uint32_t gatulefo_i64x2_bitmask(gatulefo_v128 v);
+
+/* cond r 1 0 ≡ any-true (number v) */
+bool gatulefo_v128_any_true(gatulefo_v128 v);
+
+/* The relaxed instructions of WebAssembly 3.0 that are carried over, each as the Rust chooses: the plain operation, and the two dots. What 3.0 allows, and
+ * that each answer is among it, is the crate `relaxed`. */
+
+/* number r ≡ relaxed-dot (number lhs) (number rhs) */
+gatulefo_v128 gatulefo_i16x8_relaxed_dot_i8x16_i7x16_s(gatulefo_v128 lhs, gatulefo_v128 rhs);
+
+/* number r ≡ relaxed-dot-add (number lhs) (number rhs) (number c) */
+gatulefo_v128 gatulefo_i32x4_relaxed_dot_i8x16_i7x16_add_s(gatulefo_v128 lhs, gatulefo_v128 rhs, gatulefo_v128 c);
+
+/* number r ≡ relaxed-swizzle (number a) (number s) */
+gatulefo_v128 gatulefo_i8x16_relaxed_swizzle(gatulefo_v128 a, gatulefo_v128 s);
+
+/* number r ≡ relaxed-laneselect (number a) (number b) (number c) */
+gatulefo_v128 gatulefo_i8x16_relaxed_laneselect(gatulefo_v128 a, gatulefo_v128 b, gatulefo_v128 c);
+
+/* number r ≡ relaxed-laneselect (number a) (number b) (number c) */
+gatulefo_v128 gatulefo_i16x8_relaxed_laneselect(gatulefo_v128 a, gatulefo_v128 b, gatulefo_v128 c);
+
+/* number r ≡ relaxed-laneselect (number a) (number b) (number c) */
+gatulefo_v128 gatulefo_i32x4_relaxed_laneselect(gatulefo_v128 a, gatulefo_v128 b, gatulefo_v128 c);
+
+/* number r ≡ relaxed-laneselect (number a) (number b) (number c) */
+gatulefo_v128 gatulefo_i64x2_relaxed_laneselect(gatulefo_v128 a, gatulefo_v128 b, gatulefo_v128 c);
+
+/* number r ≡ relaxed-min binary32 (number lhs) (number rhs) */
+gatulefo_v128 gatulefo_f32x4_relaxed_min(gatulefo_v128 lhs, gatulefo_v128 rhs);
+
+/* number r ≡ relaxed-max binary32 (number lhs) (number rhs) */
+gatulefo_v128 gatulefo_f32x4_relaxed_max(gatulefo_v128 lhs, gatulefo_v128 rhs);
+
+/* number r ≡ relaxed-min binary64 (number lhs) (number rhs) */
+gatulefo_v128 gatulefo_f64x2_relaxed_min(gatulefo_v128 lhs, gatulefo_v128 rhs);
+
+/* number r ≡ relaxed-max binary64 (number lhs) (number rhs) */
+gatulefo_v128 gatulefo_f64x2_relaxed_max(gatulefo_v128 lhs, gatulefo_v128 rhs);
+
+/* number r ≡ relaxed-q15mulr (number a) (number b) */
+gatulefo_v128 gatulefo_i16x8_relaxed_q15mulr_s(gatulefo_v128 a, gatulefo_v128 b);
+
+/* Replace: a new vector with one lane changed; a lane number not below the lane count is refused with 4. */
+
+/* (number r, now (refused .exit)) ≡ pair (at-lane 64 lane (replace 64 (number v) lane bits)) */
+gatulefo_v128 gatulefo_i64x2_replace_lane(gatulefo_v128 v, uint8_t lane, uint64_t bits, uint8_t *refused);
+
+/* (number r, now (refused .exit)) ≡ pair (at-lane 32 lane (replace 32 (number v) lane bits)) */
+gatulefo_v128 gatulefo_i32x4_replace_lane(gatulefo_v128 v, uint8_t lane, uint32_t bits, uint8_t *refused);
+
+/* (number r, now (refused .exit)) ≡ pair (at-lane 16 lane (replace 16 (number v) lane bits)) */
+gatulefo_v128 gatulefo_i16x8_replace_lane(gatulefo_v128 v, uint8_t lane, uint16_t bits, uint8_t *refused);
+
+/* (number r, now (refused .exit)) ≡ pair (at-lane 8 lane (replace 8 (number v) lane bits)) */
+gatulefo_v128 gatulefo_i8x16_replace_lane(gatulefo_v128 v, uint8_t lane, uint8_t bits, uint8_t *refused);
+
+/* (number r, now (refused .exit)) ≡ pair (at-lane 64 lane (replace 64 (number v) lane bits)) */
+gatulefo_v128 gatulefo_f64x2_replace_lane(gatulefo_v128 v, uint8_t lane, uint64_t bits, uint8_t *refused);
+
+/* (number r, now (refused .exit)) ≡ pair (at-lane 32 lane (replace 32 (number v) lane bits)) */
+gatulefo_v128 gatulefo_f32x4_replace_lane(gatulefo_v128 v, uint8_t lane, uint32_t bits, uint8_t *refused);
+
+/* Shifts, the count taken modulo the lane width. */
+
+/* number r ≡ unary 8 (ishl 8 count) (number v) */
+gatulefo_v128 gatulefo_i8x16_shl(gatulefo_v128 v, uint32_t count);
+
+/* number r ≡ unary 16 (ishl 16 count) (number v) */
+gatulefo_v128 gatulefo_i16x8_shl(gatulefo_v128 v, uint32_t count);
+
+/* number r ≡ unary 32 (ishl 32 count) (number v) */
+gatulefo_v128 gatulefo_i32x4_shl(gatulefo_v128 v, uint32_t count);
+
+/* number r ≡ unary 64 (ishl 64 count) (number v) */
+gatulefo_v128 gatulefo_i64x2_shl(gatulefo_v128 v, uint32_t count);
+
+/* number r ≡ unary 8 (ishr-s 8 count) (number v) */
+gatulefo_v128 gatulefo_i8x16_shr_s(gatulefo_v128 v, uint32_t count);
+
+/* number r ≡ unary 8 (ishr-u 8 count) (number v) */
+gatulefo_v128 gatulefo_i8x16_shr_u(gatulefo_v128 v, uint32_t count);
+
+/* number r ≡ unary 16 (ishr-s 16 count) (number v) */
+gatulefo_v128 gatulefo_i16x8_shr_s(gatulefo_v128 v, uint32_t count);
+
+/* number r ≡ unary 16 (ishr-u 16 count) (number v) */
+gatulefo_v128 gatulefo_i16x8_shr_u(gatulefo_v128 v, uint32_t count);
+
+/* number r ≡ unary 32 (ishr-s 32 count) (number v) */
+gatulefo_v128 gatulefo_i32x4_shr_s(gatulefo_v128 v, uint32_t count);
+
+/* number r ≡ unary 32 (ishr-u 32 count) (number v) */
+gatulefo_v128 gatulefo_i32x4_shr_u(gatulefo_v128 v, uint32_t count);
+
+/* number r ≡ unary 64 (ishr-s 64 count) (number v) */
+gatulefo_v128 gatulefo_i64x2_shr_s(gatulefo_v128 v, uint32_t count);
+
+/* number r ≡ unary 64 (ishr-u 64 count) (number v) */
+gatulefo_v128 gatulefo_i64x2_shr_u(gatulefo_v128 v, uint32_t count);
+
+/* How far past the end an access runs that is refused with 7 (document 02, order 9). */
+
+/* The exact end of the access of so many bytes minus the length of the memory, at most 2^64-1; 0 where the access is allowed. The address of an `_at` function is
+ * `ptr`, with the offset 0.
+ * r ≡ short-of (within (now (memory .entry)) (ptr + offset) bytes (ptr + offset)) */
+uint64_t gatulefo_shortfall(const uint8_t *memory, size_t memory_length, uint64_t ptr, uint64_t offset, size_t bytes);
+
+/* Splat: every lane is the scalar. */
+
+/* number r ≡ splat 64 bits */
+gatulefo_v128 gatulefo_i64x2_splat(uint64_t bits);
+
+/* number r ≡ splat 32 bits */
+gatulefo_v128 gatulefo_i32x4_splat(uint32_t bits);
+
+/* number r ≡ splat 16 bits */
+gatulefo_v128 gatulefo_i16x8_splat(uint16_t bits);
+
+/* number r ≡ splat 8 bits */
+gatulefo_v128 gatulefo_i8x16_splat(uint8_t bits);
+
+/* number r ≡ splat 32 bits */
+gatulefo_v128 gatulefo_f32x4_splat(uint32_t bits);
+
+/* number r ≡ splat 64 bits */
+gatulefo_v128 gatulefo_f64x2_splat(uint64_t bits);
+
+/* Stores. What comes back is the number of the refusal, or 0. A lane store tests the lane, 4, before the bounds, 7. */
+
+/* (r, now (memory .exit)) ≡ store-pair (stored (store 16 (number value) (now (memory .entry)) (ptr + offset)) (now (memory .entry))) */
+uint8_t gatulefo_v128_store(uint8_t *memory, size_t memory_length, uint64_t ptr, uint64_t offset, gatulefo_v128 value);
+
+/* (r, now (memory .exit)) ≡ store-pair (stored (store 16 (number value) (now (memory .entry)) address) (now (memory .entry))) */
+uint8_t gatulefo_v128_store_at(uint8_t *memory, size_t memory_length, size_t address, gatulefo_v128 value);
+
+/* (r, now (memory .exit)) ≡ store-pair (stored (store-lane 8 (number value) lane (now (memory .entry)) (ptr + offset)) (now (memory .entry))) */
+uint8_t gatulefo_v128_store8_lane(uint8_t *memory, size_t memory_length, uint64_t ptr, uint64_t offset, gatulefo_v128 value, uint8_t lane);
+
+/* (r, now (memory .exit)) ≡ store-pair (stored (store-lane 16 (number value) lane (now (memory .entry)) (ptr + offset)) (now (memory .entry))) */
+uint8_t gatulefo_v128_store16_lane(uint8_t *memory, size_t memory_length, uint64_t ptr, uint64_t offset, gatulefo_v128 value, uint8_t lane);
+
+/* (r, now (memory .exit)) ≡ store-pair (stored (store-lane 32 (number value) lane (now (memory .entry)) (ptr + offset)) (now (memory .entry))) */
+uint8_t gatulefo_v128_store32_lane(uint8_t *memory, size_t memory_length, uint64_t ptr, uint64_t offset, gatulefo_v128 value, uint8_t lane);
+
+/* (r, now (memory .exit)) ≡ store-pair (stored (store-lane 64 (number value) lane (now (memory .entry)) (ptr + offset)) (now (memory .entry))) */
+uint8_t gatulefo_v128_store64_lane(uint8_t *memory, size_t memory_length, uint64_t ptr, uint64_t offset, gatulefo_v128 value, uint8_t lane);
+
+/* (r, now (memory .exit)) ≡ store-pair (stored (store-lane 8 (number value) lane (now (memory .entry)) address) (now (memory .entry))) */
+uint8_t gatulefo_v128_store8_lane_at(uint8_t *memory, size_t memory_length, size_t address, gatulefo_v128 value, uint8_t lane);
+
+/* (r, now (memory .exit)) ≡ store-pair (stored (store-lane 16 (number value) lane (now (memory .entry)) address) (now (memory .entry))) */
+uint8_t gatulefo_v128_store16_lane_at(uint8_t *memory, size_t memory_length, size_t address, gatulefo_v128 value, uint8_t lane);
+
+/* (r, now (memory .exit)) ≡ store-pair (stored (store-lane 32 (number value) lane (now (memory .entry)) address) (now (memory .entry))) */
+uint8_t gatulefo_v128_store32_lane_at(uint8_t *memory, size_t memory_length, size_t address, gatulefo_v128 value, uint8_t lane);
+
+/* (r, now (memory .exit)) ≡ store-pair (stored (store-lane 64 (number value) lane (now (memory .entry)) address) (now (memory .entry))) */
+uint8_t gatulefo_v128_store64_lane_at(uint8_t *memory, size_t memory_length, size_t address, gatulefo_v128 value, uint8_t lane);
+
+/* Lanes of one width from those of another: extending, extended products and sums, the dot product, narrowing, and what the widening loads do with
+ * their bits. */
+
+/* number r ≡ extend lowHalf extend-s 8 (number v) */
+gatulefo_v128 gatulefo_i16x8_extend_low_i8x16_s(gatulefo_v128 v);
+
+/* number r ≡ extend lowHalf extend-u 8 (number v) */
+gatulefo_v128 gatulefo_i16x8_extend_low_i8x16_u(gatulefo_v128 v);
+
+/* number r ≡ extend lowHalf extend-s 16 (number v) */
+gatulefo_v128 gatulefo_i32x4_extend_low_i16x8_s(gatulefo_v128 v);
+
+/* number r ≡ extend lowHalf extend-u 16 (number v) */
+gatulefo_v128 gatulefo_i32x4_extend_low_i16x8_u(gatulefo_v128 v);
+
+/* number r ≡ extend lowHalf extend-s 32 (number v) */
+gatulefo_v128 gatulefo_i64x2_extend_low_i32x4_s(gatulefo_v128 v);
+
+/* number r ≡ extend lowHalf extend-u 32 (number v) */
+gatulefo_v128 gatulefo_i64x2_extend_low_i32x4_u(gatulefo_v128 v);
+
+/* number r ≡ extend highHalf extend-s 8 (number v) */
+gatulefo_v128 gatulefo_i16x8_extend_high_i8x16_s(gatulefo_v128 v);
+
+/* number r ≡ extend highHalf extend-u 8 (number v) */
+gatulefo_v128 gatulefo_i16x8_extend_high_i8x16_u(gatulefo_v128 v);
+
+/* number r ≡ extend highHalf extend-s 16 (number v) */
+gatulefo_v128 gatulefo_i32x4_extend_high_i16x8_s(gatulefo_v128 v);
+
+/* number r ≡ extend highHalf extend-u 16 (number v) */
+gatulefo_v128 gatulefo_i32x4_extend_high_i16x8_u(gatulefo_v128 v);
+
+/* number r ≡ extend highHalf extend-s 32 (number v) */
+gatulefo_v128 gatulefo_i64x2_extend_high_i32x4_s(gatulefo_v128 v);
+
+/* number r ≡ extend highHalf extend-u 32 (number v) */
+gatulefo_v128 gatulefo_i64x2_extend_high_i32x4_u(gatulefo_v128 v);
+
+/* number r ≡ extmul lowHalf extend-s 8 (number lhs) (number rhs) */
+gatulefo_v128 gatulefo_i16x8_extmul_low_i8x16_s(gatulefo_v128 lhs, gatulefo_v128 rhs);
+
+/* number r ≡ extmul lowHalf extend-u 8 (number lhs) (number rhs) */
+gatulefo_v128 gatulefo_i16x8_extmul_low_i8x16_u(gatulefo_v128 lhs, gatulefo_v128 rhs);
+
+/* number r ≡ extmul lowHalf extend-s 16 (number lhs) (number rhs) */
+gatulefo_v128 gatulefo_i32x4_extmul_low_i16x8_s(gatulefo_v128 lhs, gatulefo_v128 rhs);
+
+/* number r ≡ extmul lowHalf extend-u 16 (number lhs) (number rhs) */
+gatulefo_v128 gatulefo_i32x4_extmul_low_i16x8_u(gatulefo_v128 lhs, gatulefo_v128 rhs);
+
+/* number r ≡ extmul lowHalf extend-s 32 (number lhs) (number rhs) */
+gatulefo_v128 gatulefo_i64x2_extmul_low_i32x4_s(gatulefo_v128 lhs, gatulefo_v128 rhs);
+
+/* number r ≡ extmul lowHalf extend-u 32 (number lhs) (number rhs) */
+gatulefo_v128 gatulefo_i64x2_extmul_low_i32x4_u(gatulefo_v128 lhs, gatulefo_v128 rhs);
+
+/* number r ≡ extmul highHalf extend-s 8 (number lhs) (number rhs) */
+gatulefo_v128 gatulefo_i16x8_extmul_high_i8x16_s(gatulefo_v128 lhs, gatulefo_v128 rhs);
+
+/* number r ≡ extmul highHalf extend-u 8 (number lhs) (number rhs) */
+gatulefo_v128 gatulefo_i16x8_extmul_high_i8x16_u(gatulefo_v128 lhs, gatulefo_v128 rhs);
+
+/* number r ≡ extmul highHalf extend-s 16 (number lhs) (number rhs) */
+gatulefo_v128 gatulefo_i32x4_extmul_high_i16x8_s(gatulefo_v128 lhs, gatulefo_v128 rhs);
+
+/* number r ≡ extmul highHalf extend-u 16 (number lhs) (number rhs) */
+gatulefo_v128 gatulefo_i32x4_extmul_high_i16x8_u(gatulefo_v128 lhs, gatulefo_v128 rhs);
+
+/* number r ≡ extmul highHalf extend-s 32 (number lhs) (number rhs) */
+gatulefo_v128 gatulefo_i64x2_extmul_high_i32x4_s(gatulefo_v128 lhs, gatulefo_v128 rhs);
+
+/* number r ≡ extmul highHalf extend-u 32 (number lhs) (number rhs) */
+gatulefo_v128 gatulefo_i64x2_extmul_high_i32x4_u(gatulefo_v128 lhs, gatulefo_v128 rhs);
+
+/* number r ≡ extadd-pairwise extend-s 8 (number v) */
+gatulefo_v128 gatulefo_i16x8_extadd_pairwise_i8x16_s(gatulefo_v128 v);
+
+/* number r ≡ extadd-pairwise extend-u 8 (number v) */
+gatulefo_v128 gatulefo_i16x8_extadd_pairwise_i8x16_u(gatulefo_v128 v);
+
+/* number r ≡ extadd-pairwise extend-s 16 (number v) */
+gatulefo_v128 gatulefo_i32x4_extadd_pairwise_i16x8_s(gatulefo_v128 v);
+
+/* number r ≡ extadd-pairwise extend-u 16 (number v) */
+gatulefo_v128 gatulefo_i32x4_extadd_pairwise_i16x8_u(gatulefo_v128 v);
+
+/* number r ≡ narrow narrow-s 8 (number low) (number high) */
+gatulefo_v128 gatulefo_i8x16_narrow_i16x8_s(gatulefo_v128 low, gatulefo_v128 high);
+
+/* number r ≡ narrow narrow-u 8 (number low) (number high) */
+gatulefo_v128 gatulefo_i8x16_narrow_i16x8_u(gatulefo_v128 low, gatulefo_v128 high);
+
+/* number r ≡ narrow narrow-s 16 (number low) (number high) */
+gatulefo_v128 gatulefo_i16x8_narrow_i32x4_s(gatulefo_v128 low, gatulefo_v128 high);
+
+/* number r ≡ narrow narrow-u 16 (number low) (number high) */
+gatulefo_v128 gatulefo_i16x8_narrow_i32x4_u(gatulefo_v128 low, gatulefo_v128 high);
+
+/* number r ≡ dot 16 (number lhs) (number rhs) */
+gatulefo_v128 gatulefo_i32x4_dot_i16x8_s(gatulefo_v128 lhs, gatulefo_v128 rhs);
+
+/* number r ≡ extend-u 32 128 bits */
+gatulefo_v128 gatulefo_v128_low32_zero(uint32_t bits);
+
+/* number r ≡ extend-u 64 128 bits */
+gatulefo_v128 gatulefo_v128_low64_zero(uint64_t bits);
+
+/* number r ≡ widen extend-s 8 bits */
+gatulefo_v128 gatulefo_v128_widen8x8_s(uint64_t bits);
+
+/* number r ≡ widen extend-u 8 bits */
+gatulefo_v128 gatulefo_v128_widen8x8_u(uint64_t bits);
+
+/* number r ≡ widen extend-s 16 bits */
+gatulefo_v128 gatulefo_v128_widen16x4_s(uint64_t bits);
+
+/* number r ≡ widen extend-u 16 bits */
+gatulefo_v128 gatulefo_v128_widen16x4_u(uint64_t bits);
+
+/* number r ≡ widen extend-s 32 bits */
+gatulefo_v128 gatulefo_v128_widen32x2_s(uint64_t bits);
+
+/* number r ≡ widen extend-u 32 bits */
+gatulefo_v128 gatulefo_v128_widen32x2_u(uint64_t bits);
+
+#ifdef __cplusplus
+}
+#endif
+
+#endif

@@ -1,0 +1,78 @@
+/* The functions that answer no request of the program `direct`, called from C, for link/check: the programs `marker` and `lease` written once more over the library.
+ *
+ *   whole find MARKER TOLERANCE LENGTH < CAPTURE
+ *   whole run PLACE LIMIT < LIST
+ *   whole steps < LIST, one step after the other, each by itself
+ */
+#include <inttypes.h>
+#include <stdio.h>
+#include <stdlib.h>
+#include <string.h>
+#include "gatulefo.h"
+
+static uint8_t input[65537];
+
+static void find(size_t length, char **arguments) {
+    uint32_t marker = strtoul(arguments[0], NULL, 16), tolerance = strtoul(arguments[1], NULL, 10), frame = strtoul(arguments[2], NULL, 10);
+    gatulefo_position_or_refusal r = gatulefo_find(input, length, marker, tolerance, frame);
+    if (!r.refused) printf("position %zu\ndistances %" PRIu32 " %" PRIu32 "\n", r.position, r.first, r.second);
+    printf("refused %u\n", r.refused);
+}
+
+static void list_registers(const uint64_t registers[32], const uint16_t writers[16]) {
+    for (int i = 0; i < 16; i++) {
+        if (!registers[2 * i] && !registers[2 * i + 1]) continue;
+        printf("r%02d ", i);
+        for (int k = 0; k < 16; k++) printf("%02x", (unsigned)(registers[2 * i + k / 8] >> 8 * (k % 8) & 255));
+        printf(" %u\n", writers[i]);
+    }
+}
+
+static void list_scalar(gatulefo_kind_and_bits scalar) {
+    static const char *const kinds[] = {"?", "i32", "i64", "f32", "f64"};
+    printf("s %s %0*" PRIx64 "\n", kinds[scalar.kind], scalar.kind % 2 ? 8 : 16, scalar.bits);
+}
+
+static void run(size_t length, size_t place, size_t limit) {
+    uint64_t registers[32] = {0};
+    uint16_t writers[16] = {0};
+    size_t done = 0;
+    gatulefo_run_answer r = {.scalar = {1, 0}, .place = place, .paused = true};
+    while (r.paused) {
+        r = gatulefo_run(registers, writers, r.scalar, input, length, r.place, limit);
+        done += r.done;
+        printf("steps %zu", r.done);
+        if (r.paused) printf(" paused %zu\n", r.place);
+        else if (r.refused) printf(" refused %u\n", r.refused);
+        else printf(" ended\n");
+        if (limit == 0) break;
+    }
+    printf("steps %zu\n", done);
+    list_registers(registers, writers);
+    list_scalar(r.scalar);
+    printf("refused %u\n", r.refused);
+}
+
+static void steps(size_t length) {
+    uint64_t registers[32] = {0};
+    uint16_t writers[16] = {0};
+    size_t done = 0;
+    gatulefo_step_answer r = {.scalar = {1, 0}};
+    for (; 32 * done < length; done++) {
+        r = gatulefo_step(registers, writers, r.scalar, done, input + 32 * done, 32);
+        if (r.refused) break;
+    }
+    printf("steps %zu\n", done);
+    list_registers(registers, writers);
+    list_scalar(r.scalar);
+    printf("refused %u\n", r.refused);
+}
+
+int main(int count, char **arguments) {
+    size_t length = fread(input, 1, sizeof input, stdin);
+    if (count == 5 && !strcmp(arguments[1], "find")) find(length, arguments + 2);
+    else if (count == 4 && !strcmp(arguments[1], "run")) run(length, strtoul(arguments[2], NULL, 10), strtoul(arguments[3], NULL, 10));
+    else if (count == 2 && !strcmp(arguments[1], "steps")) steps(length);
+    else return 2;
+    return 0;
+}
