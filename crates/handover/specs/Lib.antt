@@ -1,3 +1,4 @@
 pub mod Answer
 pub mod Calculate
 pub mod Find
+pub mod Recording

@@ -2,3 +2,4 @@
 pub mod answer;
 pub mod calculation;
 pub mod position;
+pub mod recorded;

@@ -1,0 +1,24 @@
+// Field recordings (document 02, order 8): a list's run recorded, and a recording replayed.
+ghost use mathlib.Core.Path.{_≡_};
+ghost use Rattle.records.specs.Definition.{recorded, replay};
+ghost use Rattle.handover.specs.Recording.{record-numbers, left-by-recorder, replay-numbers, replayed};
+use handover::recorded::RecordAnswer;
+use handover::recorded::ReplayAnswer;
+use handover::recorded::record_answer;
+use handover::recorded::replay_answer;
+
+// Runs the list from zero registers and i32 0, and writes its recording to `out`, which 18,944 bytes are enough for.
+#[no_mangle]
+pub extern "C" fn gatulefo_record(list: &[u8], out: &mut [u8]) -> RecordAnswer
+    ensures { λ r. ⌜ (record-numbers r, now (out .exit)) ≡ left-by-recorder (recorded (now (list .entry)) (now (out .entry))) ⌝ }
+{
+    record_answer(recording::recorder::record(list, out))
+}
+
+// Whether every record of a recording is what the calculator's definition gives.
+#[no_mangle]
+pub extern "C" fn gatulefo_replay(file: &[u8]) -> ReplayAnswer
+    ensures { λ r. ⌜ replay-numbers r ≡ replayed (replay (now (file .entry))) ⌝ }
+{
+    replay_answer(recording::replay::replay(file))
+}
