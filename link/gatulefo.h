@@ -61,6 +61,20 @@ typedef struct {
     uint8_t refused;
 } gatulefo_position_or_refusal;
 
+/* How many bytes were written. None where the list has no step, the recording would overflow the buffer, or the list is refused: the number, 1; else 0. */
+typedef struct {
+    size_t bytes;
+    bool empty;
+    bool overflow;
+    uint8_t refused;
+} gatulefo_record_answer;
+
+/* The first record that is not what the definition gives, counted from 1; 0 where all are. Or the number of a refusal; else 0. */
+typedef struct {
+    uint16_t differs;
+    uint8_t refused;
+} gatulefo_replay_answer;
+
 /* Lane by lane integer arithmetic. */
 
 /* number r ≡ binary 64 (iadd 64) (number lhs) (number rhs) */
@@ -523,6 +537,15 @@ gatulefo_v128 gatulefo_f32x4_ge(gatulefo_v128 lhs, gatulefo_v128 rhs);
 /* number r ≡ binary 64 (fge binary64) (number lhs) (number rhs) */
 gatulefo_v128 gatulefo_f64x2_ge(gatulefo_v128 lhs, gatulefo_v128 rhs);
 
+/* A chain of shuffles folded into one (document 02, order 13). A link is 17 bytes: its partner, 0 for a, 1 for b, any other number for the current vector, and its sixteen
+ * indices. */
+
+/* 0, and the sixteen indices of the one shuffle of a and b are written to `out`; or the number of the refusal, 18 more than 16 links, 5 an index above 31, and nothing is
+ * written.
+ * r ≡ refusal (now (links .entry))
+ * now (out .exit) ≡ left r (folded (now (links .entry))) (now (out .entry)) */
+uint8_t gatulefo_fold(const uint8_t (*links)[17], size_t links_length, uint8_t out[16]);
+
 /* Loads. A lane load tests the lane, 4, before the bounds, 7. */
 
 /* (number r, now (refused .exit)) ≡ access-pair (load 16 (now (memory .entry)) (ptr + offset)) */
@@ -745,6 +768,16 @@ gatulefo_v128 gatulefo_i8x16_shuffle(gatulefo_v128 a, gatulefo_v128 b, const uin
 /* number r ≡ swizzle (number a) (number s) */
 gatulefo_v128 gatulefo_i8x16_swizzle(gatulefo_v128 a, gatulefo_v128 s);
 
+/* Field recordings (document 02, order 8): a list's run recorded, and a recording replayed. */
+
+/* Runs the list from zero registers and i32 0, and writes its recording to `out`, which 18,944 bytes are enough for.
+ * (record-numbers r, now (out .exit)) ≡ left-by-recorder (recorded (now (list .entry)) (now (out .entry))) */
+gatulefo_record_answer gatulefo_record(const uint8_t *list, size_t list_length, uint8_t *out, size_t out_length);
+
+/* Whether every record of a recording is what the calculator's definition gives.
+ * replay-numbers r ≡ replayed (replay (now (file .entry))) */
+gatulefo_replay_answer gatulefo_replay(const uint8_t *file, size_t file_length);
+
 /* Reductions: one number from all lanes of a vector. */
 
 /* cond r 1 0 ≡ all-true 8 (number v) */
@@ -832,6 +865,21 @@ gatulefo_v128 gatulefo_f64x2_replace_lane(gatulefo_v128 v, uint8_t lane, uint64_
 
 /* (number r, now (refused .exit)) ≡ pair (at-lane 32 lane (replace 32 (number v) lane bits)) */
 gatulefo_v128 gatulefo_f32x4_replace_lane(gatulefo_v128 v, uint8_t lane, uint32_t bits, uint8_t *refused);
+
+/* i8x16 add, exclusive-or and popcnt over a lent row of vectors, written over the first row (document 02, order 6). A row is of 64-bit halves, two a vector, the low one
+ * first. What comes back is the number of the refusal, 12 where the rows differ in length or a row has an odd number of halves, or 0; nothing is written where there is one. */
+
+/* r ≡ half-refusal (length (now (first .entry))) (length (now (second .entry)))
+ * now (first .exit) ≡ after r (halves (zip (binary 8 (iadd 8)) (vectors (now (first .entry))) (vectors (now (second .entry))))) (now (first .entry)) */
+uint8_t gatulefo_row_i8x16_add(uint64_t *first, size_t first_length, const uint64_t *second, size_t second_length);
+
+/* r ≡ half-refusal (length (now (first .entry))) (length (now (second .entry)))
+ * now (first .exit) ≡ after r (halves (zip (ixor 128) (vectors (now (first .entry))) (vectors (now (second .entry))))) (now (first .entry)) */
+uint8_t gatulefo_row_v128_xor(uint64_t *first, size_t first_length, const uint64_t *second, size_t second_length);
+
+/* r ≡ half-refusal (length (now (first .entry))) (length (now (first .entry)))
+ * now (first .exit) ≡ after r (halves (map (unary 8 (ipopcnt 8)) (vectors (now (first .entry))))) (now (first .entry)) */
+uint8_t gatulefo_row_i8x16_popcnt(uint64_t *first, size_t first_length);
 
 /* Shifts, the count taken modulo the lane width. */
 

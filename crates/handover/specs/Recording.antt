@@ -14,7 +14,7 @@ recorder-numbers short = (0, false, true, 0)
 recorder-numbers (rejected n) = (0, false, false, n)
 
 abbrev pub record-numbers : RecordAnswer → ℕ × Bool × Bool × ℕ
-record-numbers r = (r .bytes, r .empty, r .short, r .refused)
+record-numbers r = (r .bytes, r .empty, r .overflow, r .refused)
 
 -- with every byte of the buffer afterwards
 abbrev pub left-by-recorder : Recorded × List ℕ → (ℕ × Bool × Bool × ℕ) × List ℕ

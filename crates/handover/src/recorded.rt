@@ -6,12 +6,12 @@ ghost use Rattle.handover.specs.Recording.{recorder-numbers, record-numb
 use recording::recorder::Recorded;
 use trace::Answer;
 
-// How many bytes were written. None where the list has no step, the buffer is too short for the recording, or the list is refused: the number, 1; else 0.
+// How many bytes were written. None where the list has no step, the recording would overflow the buffer, or the list is refused: the number, 1; else 0.
 #[repr(C)]
 pub struct RecordAnswer {
     pub bytes: usize,
     pub empty: bool,
-    pub short: bool,
+    pub overflow: bool,
     pub refused: u8,
 }
 
@@ -29,25 +29,25 @@ pub fn record_answer(answer: Recorded) -> RecordAnswer
         Recorded::Bytes(bytes) => RecordAnswer {
             bytes,
             empty: false,
-            short: false,
+            overflow: false,
             refused: 0,
         },
         Recorded::Empty => RecordAnswer {
             bytes: 0,
             empty: true,
-            short: false,
+            overflow: false,
             refused: 0,
         },
         Recorded::Short => RecordAnswer {
             bytes: 0,
             empty: false,
-            short: true,
+            overflow: true,
             refused: 0,
         },
         Recorded::Refused(refused) => RecordAnswer {
             bytes: 0,
             empty: false,
-            short: false,
+            overflow: false,
             refused,
         },
     }
