@@ -52,6 +52,15 @@ typedef struct {
     uint8_t refused;
 } gatulefo_step_answer;
 
+/* How many blocks were written, whether the block after them could not be mended, and of each block written the bit that was put back, or 4096 for none. Or the number of a
+ * refusal, 13 or 16, and nothing is written; else 0. */
+typedef struct {
+    uint8_t refused;
+    size_t written;
+    bool stopped;
+    uint16_t bits[37];
+} gatulefo_mend_answer;
+
 /* A position with the distances of the windows there and a frame later; or the number of a refusal: 8 tolerance above 8, 9 length outside 64 to 65,536, 10 buffer
  * above 65,536 bytes or too short, 11 no such position. The number is 0 where a position is given, and the others are 0 where it is refused. */
 typedef struct {
@@ -768,7 +777,7 @@ gatulefo_v128 gatulefo_i8x16_shuffle(gatulefo_v128 a, gatulefo_v128 b, const uin
 /* number r ≡ swizzle (number a) (number s) */
 gatulefo_v128 gatulefo_i8x16_swizzle(gatulefo_v128 a, gatulefo_v128 s);
 
-/* Field recordings (document 02, order 8): a list's run recorded, and a recording replayed. */
+/* Field recordings (document 02, orders 8 and 10): a list's run recorded, a recording replayed, and a damaged one mended. */
 
 /* Runs the list from zero registers and i32 0, and writes its recording to `out`, which 18,944 bytes are enough for.
  * (record-numbers r, now (out .exit)) ≡ left-by-recorder (recorded (now (list .entry)) (now (out .entry))) */
@@ -777,6 +786,10 @@ gatulefo_record_answer gatulefo_record(const uint8_t *list, size_t list_length, 
 /* Whether every record of a recording is what the calculator's definition gives.
  * replay-numbers r ≡ replayed (replay (now (file .entry))) */
 gatulefo_replay_answer gatulefo_replay(const uint8_t *file, size_t file_length);
+
+/* Puts back a flipped bit of each block of a recording, and writes the blocks to `out`, up to the first that cannot be mended.
+ * (mended-of r, now (out .exit)) ≡ mending (now (file .entry)) (now (out .entry)) */
+gatulefo_mend_answer gatulefo_mend(const uint8_t *file, size_t file_length, uint8_t *out, size_t out_length);
 
 /* Reductions: one number from all lanes of a vector. */
 

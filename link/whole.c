@@ -1,5 +1,5 @@
-/* The functions that answer no request of the program `direct`, called from C, for link/check: the programs `marker`, `lease`, `fold`, `record` and `replay` written once more
- * over the library.
+/* The functions that answer no request of the program `direct`, called from C, for link/check: the programs `marker`, `lease`, `fold`, `record`, `replay` and `mend` written
+ * once more over the library.
  *
  *   whole find MARKER TOLERANCE LENGTH < CAPTURE
  *   whole run PLACE LIMIT < LIST
@@ -7,6 +7,7 @@
  *   whole fold < CHAIN
  *   whole record < LIST
  *   whole replay < RECORDING
+ *   whole mend < RECORDING
  *   whole rows < BYTES, as rows of halves: each call beside the single operations, and with rows that are refused
  */
 #include <inttypes.h>
@@ -97,6 +98,12 @@ static void replay(size_t length) {
     else printf("agrees\n");
 }
 
+static void mend(size_t length) {
+    static uint8_t out[18944];
+    gatulefo_mend_answer r = gatulefo_mend(input, length, out, sizeof out);
+    fwrite(out, 512, r.written, stdout);
+}
+
 /* The vectors of a row, one at a time by a function of two vectors. */
 static int is_row(const uint64_t *row, const uint64_t *a, const uint64_t *b, size_t halves, gatulefo_v128 single(gatulefo_v128, gatulefo_v128)) {
     for (size_t i = 0; i < halves; i += 2) {
@@ -137,6 +144,7 @@ int main(int count, char **arguments) {
     else if (count == 2 && !strcmp(arguments[1], "fold")) fold(length);
     else if (count == 2 && !strcmp(arguments[1], "record")) record(length);
     else if (count == 2 && !strcmp(arguments[1], "replay")) replay(length);
+    else if (count == 2 && !strcmp(arguments[1], "mend")) mend(length);
     else if (count == 2 && !strcmp(arguments[1], "rows")) rows(length);
     else return 2;
     return 0;

@@ -1,1 +1,2 @@
 mod Machines
+mod Pairs

@@ -1,7 +1,11 @@
-// Field recordings (document 02, order 8): a list's run recorded, and a recording replayed.
+// Field recordings (document 02, orders 8 and 10): a list's run recorded, a recording replayed, and a damaged one mended.
 ghost use mathlib.Core.Path.{_≡_};
 ghost use Rattle.records.specs.Definition.{recorded, replay};
+ghost use Rattle.mending.specs.Definition.{mending};
+ghost use Rattle.handover.specs.Mending.{mended-of};
 ghost use Rattle.handover.specs.Recording.{record-numbers, left-by-recorder, replay-numbers, replayed};
+use handover::mended::MendAnswer;
+use handover::mended::mend_answer;
 use handover::recorded::RecordAnswer;
 use handover::recorded::ReplayAnswer;
 use handover::recorded::record_answer;
@@ -21,4 +25,12 @@ pub extern "C" fn gatulefo_replay(file: &[u8]) -> ReplayAnswer
     ensures { λ r. ⌜ replay-numbers r ≡ replayed (replay (now (file .entry))) ⌝ }
 {
     replay_answer(recording::replay::replay(file))
+}
+
+// Puts back a flipped bit of each block of a recording, and writes the blocks to `out`, up to the first that cannot be mended.
+#[no_mangle]
+pub extern "C" fn gatulefo_mend(file: &[u8], out: &mut [u8]) -> MendAnswer
+    ensures { λ r. ⌜ (mended-of r, now (out .exit)) ≡ mending (now (file .entry)) (now (out .entry)) ⌝ }
+{
+    mend_answer(mending::mend(file, out))
 }

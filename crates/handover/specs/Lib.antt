@@ -1,4 +1,5 @@
 pub mod Answer
 pub mod Calculate
 pub mod Find
+pub mod Mending
 pub mod Recording

@@ -1,12 +1,10 @@
 -- `gatulefo::recordings::gatulefo_record` meets its contract: the recorder's answer as numbers, with what it left in the buffer. Assumes nothing.
 use borrow.Author.Needs.{needs}
-use mathlib.Core.Path.{_≡_, refl, ap, _∙_}
+use mathlib.Core.Path.{ap, _∙_}
 use Rattle.handover.specs.Recording.{left-by-recorder}
+use Rattle.gatulefo.proofs.Pairs.{beside}
 use Rattle.gatulefo.proofs.recordings.gatulefo_record.Statement.{statement}
 use Rattle.gatulefo.proofs.recordings.gatulefo_record.Tie as tie
-
-beside : {A B : Type 0} (x y : A) (b : B) → x ≡ y → _≡_ {A = A × B} (x, b) (y, b)
-beside x y b e = rw e refl
 
 record-requires : tie.Need-record-requires
 record-requires c κs = search needs
