@@ -1,13 +1,13 @@
 -- Lists of bytes and of indices: what holds of every element, of the element at a place, and of a link's partner.
 -- Assumes nothing.
-use mathlib.Core.Path.{_≡_, refl, sym, ap, _∙_}
+use mathlib.Core.Path.{_≡_, refl, sym, _∙_}
 use mathlib.Core.List.{List, [], _∷_, _++_, map}
 use Prim.Native.Nat.{ℕ, zero, suc, _+_, _<_, _≤_}
 use native.Mathlib.Nat.{suc-inj, suc-ne-zero}
 use native.Mathlib.Omega.{arith}
 use lib.ListN.{length, getD}
 use Rattle.standard.proofs.Digits.{Below}
-use Rattle.standard.proofs.Halves.{elements}
+use Rattle.standard.proofs.Halves.{elements, tail-elements, all-elements}
 use Rattle.chain.specs.Definition.{indices, partner, counted}
 
 -- what is made of a partner, and what holds of it
@@ -46,16 +46,6 @@ counted-below m zero k h = tt
 counted-below m (suc n) k h = (omega (arith, h), counted-below m n (suc k) (omega (arith, h)))
 
 -- the indices of a link, byte for byte
-tail-elements : (x : ℕ) (xs : List ℕ) (i n : ℕ) → elements (x ∷ xs) (suc i) n ≡ elements xs i n
-tail-elements x xs i zero = refl
-tail-elements x xs i (suc n) = ap (λ (r : List ℕ). getD xs i 0 ∷ r) (tail-elements x xs (suc i) n)
-
-all-elements : (xs : List ℕ) (n : ℕ) → length xs ≡ n → elements xs 0 n ≡ xs
-all-elements [] zero e = refl
-all-elements [] (suc n) e = absurd (suc-ne-zero n (sym e))
-all-elements (x ∷ xs) zero e = absurd (suc-ne-zero (length xs) e)
-all-elements (x ∷ xs) (suc n) e = ap (λ (r : List ℕ). x ∷ r) (tail-elements x xs 0 n ∙ all-elements xs n (suc-inj e))
-
 pub elements-drop : (link : List ℕ) (n : ℕ) → length link ≡ suc n → elements link 1 n ≡ indices link
 elements-drop [] n e = absurd (suc-ne-zero n (sym e))
 elements-drop (p ∷ is) n e = tail-elements p is 0 n ∙ all-elements is n (suc-inj e)

@@ -18,7 +18,7 @@ use Rattle.standard.specs.Vector.{shuffle}
 use Rattle.standard.specs.Refusal.{given, refused, legal, at-indices}
 use Rattle.standard.proofs.Digits.{Below, length-digits, lanes-determine}
 use Rattle.standard.proofs.Halves.{map-append}
-use Rattle.chain.specs.Definition.{indices, partner, chained, all-legal, refusal, unless, applied, counted, low-places, high-places, folded}
+use Rattle.chain.specs.Definition.{indices, partner, chained, all-legal, refusal, answered, applied, counted, low-places, high-places, folded}
 use Rattle.chain.proofs.Judging.{both, unrefused}
 use Rattle.chain.proofs.Lists.{partner-of, partner-has, picked-below, counted-below}
 use Rattle.chain.proofs.Bytes.{Whole, shuffled, chained-bytes, length-indices, length-shuffled, shuffle-lt, lanes-shuffle, lanes-chained, folded-bytes, chained-lt}
@@ -116,6 +116,6 @@ no-link = refl
 -- a chain that is not refused, applied, is the shuffle by the folded list, which is not refused
 pub applied-once : (links : List (List ℕ)) → Whole links → refusal links ≡ 0 → (a b : ℕ) → a < 2 ^ 128 → b < 2 ^ 128 → applied links a b ≡ at-indices (folded links) (shuffle (folded links) a b)
 applied-once links w unrefuse a b ha hb =
-    ap (λ (n : ℕ). unless n (chained links a b a)) unrefuse
+    ap (λ (n : ℕ). answered n (chained links a b a)) unrefuse
     ∙ ap given (sym (one-shuffle links w (unrefused links unrefuse) a b ha hb))
     ∙ sym (ap (λ (t : Bool). cond t (given (shuffle (folded links) a b)) (refused 5)) (legal-list links w .1))

@@ -31,13 +31,14 @@ all-legal (link ∷ links) = cond (legal (indices link)) (all-legal links) false
 abbrev pub refusal : List (List ℕ) → ℕ
 refusal links = cond (ltb 16 (length links)) 18 (cond (all-legal links) 0 5)
 
-abbrev pub unless : {A : Type 0} → ℕ → A → Answer A
-unless zero x = given x
-unless (suc n) x = refused (suc n)
+-- The answer by the refusal's number.
+abbrev pub answered : {A : Type 0} → ℕ → A → Answer A
+answered zero x = given x
+answered (suc n) x = refused (suc n)
 
 -- The chain applied to a and b.
 abbrev pub applied : List (List ℕ) → ℕ → ℕ → Answer ℕ
-applied links a b = unless (refusal links) (chained links a b a)
+applied links a b = answered (refusal links) (chained links a b a)
 
 -- n numbers from k on.
 abbrev pub counted : ℕ → ℕ → List ℕ

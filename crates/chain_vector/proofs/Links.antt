@@ -8,7 +8,7 @@ use native.Mathlib.Omega.{arith}
 use lib.ListN.{length, getD, drop, drop-of-length-le}
 use Rattle.standard.specs.Refusal.{Answer, given, refused, legal, at-indices}
 use Rattle.standard.specs.Vector.{shuffle}
-use Rattle.chain.specs.Definition.{indices, partner, chained, all-legal, refusal, unless, applied}
+use Rattle.chain.specs.Definition.{indices, partner, chained, all-legal, refusal, answered, applied}
 use Rattle.chain.proofs.Judging.{one-more, link-legal}
 
 value : Answer ℕ → ℕ
@@ -46,11 +46,11 @@ module _ (links : List (List ℕ)) (a b : ℕ) where
   unfolding chained
   all-links k current over unrefused e =
       ap given (ap (λ (rest : List (List ℕ)). chained rest a b current) (sym (drop-of-length-le links over)) ∙ e)
-      ∙ ap (λ (n : ℕ). unless n (chained links a b a)) (sym unrefused)
+      ∙ ap (λ (n : ℕ). answered n (chained links a b a)) (sym unrefused)
 
   pub refused-chain : (r : ℕ) → r ≡ refusal links → (r ≡ 0 → ⊥) → refused r ≡ applied links a b
-  refused-chain r e nonzero = by r nonzero ∙ ap (λ (n : ℕ). unless n (chained links a b a)) e
+  refused-chain r e nonzero = by r nonzero ∙ ap (λ (n : ℕ). answered n (chained links a b a)) e
     where
-      by : (r : ℕ) → (r ≡ 0 → ⊥) → refused r ≡ unless r (chained links a b a)
+      by : (r : ℕ) → (r ≡ 0 → ⊥) → refused r ≡ answered r (chained links a b a)
       by zero nonzero = absurd (nonzero refl)
       by (suc r) nonzero = refl

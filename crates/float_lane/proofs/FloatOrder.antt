@@ -10,7 +10,7 @@ use lib.Ieee
 use lib.Ieee.{Float, nan, inf, fin, Format, ofBits, nanBits}
 use lib.Ieee.Bits.{nanBits-is}
 use lib.Ieee.Compare.{differs-from-itself}
-use Rattle.float_lane.proofs.Nan.{holds, fails, differs}
+use Rattle.standard.proofs.Nan.{holds, fails, differs}
 
 -- A comparison that is false wherever one of its operands is a NaN.
 abbrev pub Unordered : (Float → Float → Bool) → Type 0

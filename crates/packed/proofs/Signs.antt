@@ -34,7 +34,7 @@ top-sign v p hp =
         rw (below-zero p (2 ^ (1 + v)) hp) (omega (arith, shr-lt 1 v hp))
 
 -- the sign bits of the n lowest lanes of w bits, in a row
-abbrev signs : ℕ → ℕ → ℕ → ℕ
+abbrev pub signs : ℕ → ℕ → ℕ → ℕ
 signs w n a = joined 1 (map (sign-bit w) (digits w n a))
 
 -- they are n bits
@@ -46,7 +46,7 @@ all-below : (w : ℕ) (xs : List ℕ) → Below 2 (map (sign-bit w) xs)
 all-below w [] = tt
 all-below w (x ∷ xs) = (bit-below (nonNeg (signed w x)), all-below w xs)
 
-signs-below : (w n a : ℕ) → signs w n a < 2 ^ n
+pub signs-below : (w n a : ℕ) → signs w n a < 2 ^ n
 signs-below w n a = rw (one-mul, length-map, length-digits) at (joined-lt 1 (map (sign-bit w) (digits w n a)) (all-below w (digits w n a)))
 
 -- one lane more: its sign bit is bit w·n + w − 1 of the half, and has n bits below it

@@ -1,6 +1,6 @@
 -- From the two halves of a vector to the vector, over the width.
 -- Assumes nothing.
-use mathlib.Core.Path.{_≡_, refl, sym, ap, ap₂, _∙_, subst}
+use mathlib.Core.Path.{_≡_, refl, sym, ap, ap₂, _∙_}
 use mathlib.Core.Bool.{Bool, true, false, cond, _&&_}
 use mathlib.Core.List.{List, [], _∷_, _++_, map}
 use Prim.Native.Nat.{ℕ, _+_, _*_, _/_, _^_, _<_}
@@ -8,15 +8,14 @@ use native.Mathlib.Nat.{one-mul, zero-mul}
 use native.Mathlib.Omega.{arith}
 use borrow.Author.Tests.{eq-eqb, ne-eqb, eqb-true, eqb-false}
 use lib.Bits.{bitOr, or-add-and, and-le-l, and-le-r}
-use lib.Dec.{eqb, lit<}
+use lib.Dec.{eqb}
 use lib.ListN.{length, length-map}
-use lib.Signed.{nonNeg}
-use Rattle.standard.specs.Integer.{signed}
 use Rattle.standard.specs.Lanes.{digits, joined, unary, binary}
 use Rattle.standard.specs.Vector.{no-zero, any-true, all-true, bitmask}
-use Rattle.standard.proofs.Digits.{Below, length-digits, joined-append, joined-lt}
+use Rattle.standard.proofs.Digits.{length-digits, joined-append}
 use Rattle.standard.proofs.Halves.{lanes-halves, unary-halves, binary-halves, map-append}
 use Rattle.packed.specs.Half.{half-unary, half-binary, half-all-true, half-bitmask, sign-bit}
+use Rattle.packed.proofs.Signs.{signs-below}
 use Rattle.packed.proofs.Table.{Divides}
 use Rattle.simd.specs.declared.V128.{V128}
 use Rattle.simd.specs.Number.{number}
@@ -63,20 +62,9 @@ module _ (w : ℕ) (d : Divides w) (a : V128) (ha : a .lo < 2 ^ 64) where
       ∙ ap (λ (ds : List ℕ). joined 1 (map (sign-bit w) ds)) (sym (lanes-halves w (64 / w) (d .0) (d .1) (a .lo) (a .hi) ha))
 
 -- a bitmask of n lanes is below 2^n
-signs : (w : ℕ) (xs : List ℕ) → Below 2 (map (sign-bit w) xs)
-signs w [] = tt
-signs w (x ∷ xs) = (pick (nonNeg (signed w x)), signs w xs)
-  where
-    pick : (b : Bool) → cond b 0 1 < 2
-    pick true = lit< tt
-    pick false = lit< tt
-
 pub mask-lt : (w x : ℕ) {m : ℕ} → m ≡ half-bitmask w x → m < 2 ^ (64 / w)
 unfolding half-bitmask
-mask-lt w x e =
-    let bits = map (sign-bit w) (digits w (64 / w) x) in
-    let count = one-mul (length bits) ∙ length-map (digits w (64 / w) x) (sign-bit w) ∙ length-digits w (64 / w) x in
-    rw e (subst (λ (n : ℕ). joined 1 bits < 2 ^ n) count (joined-lt 1 bits (signs w (digits w (64 / w) x))))
+mask-lt w x e = rw e (signs-below w (64 / w) x)
 
 -- any bit of either half
 pub both-any-true : (a b : ℕ) (r : Bool) → cond r 1 0 ≡ any-true (bitOr a b) → cond r 1 0 ≡ any-true (a + 2 ^ 64 * b)

@@ -36,7 +36,7 @@ seal-written b rest out q h l e p =
     ∙ append-snoc b (q / 256) (q % 256 ∷ [])
     ∙ ap (λ (c : ℕ). b ++ (c / 256 ∷ c % 256 ∷ [])) p
 
-few : (rs : List ℕ) → length (take 448 rs) ≤ 448
+pub few : (rs : List ℕ) → length (take 448 rs) ≤ 448
 few rs = rw length-take (omega arith)
 
 pub length-packed : (n k : ℕ) (rs : List ℕ) → length (packed-from n k rs) ≡ 512 * n

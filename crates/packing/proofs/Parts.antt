@@ -6,13 +6,13 @@ use Prim.Native.Nat.{ℕ, zero, suc, _+_, _-_, _*_, _/_, _%_, _≤_, _<_}
 use native.Mathlib.Nat.{not-suc-le-zero, le-of-suc-le-suc, add-zero}
 use native.Mathlib.Omega.{arith}
 use borrow.Author.Tests.{eq-eqb}
-use lib.ListN.{length, getD, take, drop, replicate, length-append, length-take, length-drop, length-replicate}
+use lib.ListN.{length, getD, take, drop, replicate, length-append, length-drop, length-replicate}
 use lib.Seq.{take-at, take-append-le, drop-at, drop-append-le, drop-drop, getD-at, append-snoc}
 use Rattle.remainder.specs.Remainder.{check}
 use Rattle.remainder.specs.Block.{right}
 use Rattle.layout.specs.Definition.{part, all-zero, block, record-in}
 use Rattle.packing.specs.Definition.{body, sealed, packed-block, packed-from}
-use Rattle.packing.proofs.Blocks.{length-body, length-block}
+use Rattle.packing.proofs.Blocks.{length-body, length-block, few}
 
 -- ---- a block
 
@@ -24,12 +24,12 @@ unfolding all-zero
 filled zero = refl
 filled (suc n) = filled n
 
-module _ (k : ℕ) (ps : List ℕ) (few : length ps ≤ 448) where
+module _ (k : ℕ) (ps : List ℕ) (at-most : length ps ≤ 448) where
   pub right-packed : right (packed-block k ps) ≡ true
   unfolding right packed-block
   right-packed =
       let b = body k ps in
-      let l = length-body k ps few in
+      let l = length-body k ps at-most in
       let front : take 510 (sealed b) ≡ b = take-at b (check b / 256 ∷ check b % 256 ∷ []) 510 l in
       let first : getD (sealed b) 510 0 ≡ check b / 256 = getD-at b (check b / 256) (check b % 256 ∷ []) 0 510 l in
       let second : getD (sealed b) 511 0 ≡ check b % 256 =
@@ -64,21 +64,18 @@ module _ (k : ℕ) (ps : List ℕ) (few : length ps ≤ 448) where
 
 -- ---- the blocks of a file
 
-short : (rs : List ℕ) → length (take 448 rs) ≤ 448
-short rs = rw length-take (omega arith)
-
 at : (n j : ℕ) (rs : List ℕ) (k : ℕ) → k < n → take 512 (drop (512 * k) (packed-from n j rs)) ≡ packed-block (j + k) (take 448 (drop (448 * k) rs))
 unfolding packed-from
 at zero j rs k h = absurd (not-suc-le-zero h)
 at (suc n) j rs zero h =
-    take-at (packed-block j (take 448 rs)) (packed-from n (j + 1) (drop 448 rs)) 512 (length-block j (take 448 rs) (short rs))
+    take-at (packed-block j (take 448 rs)) (packed-from n (j + 1) (drop 448 rs)) 512 (length-block j (take 448 rs) (few rs))
     ∙ ap (λ (i : ℕ). packed-block i (take 448 rs)) (sym (add-zero j))
 at (suc n) j rs (suc k) h =
     let b = packed-block j (take 448 rs) in
     let rest = packed-from n (j + 1) (drop 448 rs) in
     let over : drop (512 * suc k) (b ++ rest) ≡ drop (512 * k) rest =
     ap (λ (i : ℕ). drop i (b ++ rest)) (let e : 512 * suc k ≡ 512 + 512 * k = omega arith in e)
-    ∙ sym (drop-drop (512 * k) 512 (b ++ rest)) ∙ ap (drop (512 * k)) (drop-at b rest 512 (length-block j (take 448 rs) (short rs))) in
+    ∙ sym (drop-drop (512 * k) 512 (b ++ rest)) ∙ ap (drop (512 * k)) (drop-at b rest 512 (length-block j (take 448 rs) (few rs))) in
     let past : drop (448 * k) (drop 448 rs) ≡ drop (448 * suc k) rs =
     drop-drop (448 * k) 448 rs ∙ ap (λ (i : ℕ). drop i rs) (let e : 448 + 448 * k ≡ 448 * suc k = omega arith in e) in
     ap (take 512) over ∙ at n (j + 1) (drop 448 rs) k (le-of-suc-le-suc h)

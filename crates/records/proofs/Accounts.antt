@@ -98,6 +98,9 @@ module _ (place : ℕ) (m after : Machine) (s : List ℕ) (r v k b : ℕ) (answe
       of (yes e) = rw (done e)
       of (no e) = rw (stopped e) (kept e)
 
+one-left : (n at : ℕ) → at < n → n - at ≡ suc (n - (at + 1))
+one-left n at h = omega arith
+
 -- ---- what is left of a replay
 
 module _ (n at : ℕ) (file : List ℕ) (m : Machine) where
@@ -106,19 +109,16 @@ module _ (n at : ℕ) (file : List ℕ) (m : Machine) where
   replay-end h = let z : n - at ≡ 0 = omega arith in rw z
 
   module _ (h : at < n) where
-    left : n - at ≡ suc (n - (at + 1))
-    left = omega arith
-
     pub replay-turn : compared at (record-at file at) (trace-of at m (take 32 (record-at file at))) ≡ agrees
         → replay-from (n - at) at file m ≡ replay-from (n - (at + 1)) (at + 1) file (next at m (take 32 (record-at file at)))
     unfolding replay-from
-    replay-turn e = rw (left, e, add-one)
+    replay-turn e = rw (one-left n at h, e, add-one)
 
     pub replay-stop : (a : Answer) → compared at (record-at file at) (trace-of at m (take 32 (record-at file at))) ≡ a → (a ≡ agrees → ⊥) → replay-from (n - at) at file m ≡ a
     unfolding replay-from
     replay-stop agrees e ne = absurd (ne refl)
-    replay-stop (differs k) e ne = rw (left, e)
-    replay-stop (refused k) e ne = rw (left, e)
+    replay-stop (differs k) e ne = rw (one-left n at h, e)
+    replay-stop (refused k) e ne = rw (one-left n at h, e)
 
 -- ---- what is left of a run
 
@@ -128,9 +128,6 @@ module _ (n at : ℕ) (list front : List ℕ) (m : Machine) where
   run-end h = let z : n - at ≡ 0 = omega arith in rw z (append-nil front)
 
   module _ (h : at < n) where
-    more : n - at ≡ suc (n - (at + 1))
-    more = omega arith
-
     pub run-turn : (after : Machine) → step at m (take 32 (drop (32 * at) list)) ≡ given after
         → front ++ records-from (n - at) at (drop (32 * at) list) m
         ≡ front ++ (take 32 (drop (32 * at) list) ++ trace-of at m (take 32 (drop (32 * at) list))) ++ records-from (n - (at + 1)) (at + 1) (drop (32 * (at + 1)) list) after
@@ -138,12 +135,12 @@ module _ (n at : ℕ) (list front : List ℕ) (m : Machine) where
     run-turn after e =
         let d : drop 32 (drop (32 * at) list) ≡ drop (32 * (at + 1)) list =
         drop-drop 32 (32 * at) list ∙ ap (λ (i : ℕ). drop i list) (let q : 32 * at + 32 ≡ 32 * (at + 1) = omega arith in q) in
-        rw (more, e, d, add-one) (sym (append-assoc front (take 32 (drop (32 * at) list) ++ trace-of at m (take 32 (drop (32 * at) list))) (records-from (n - suc at) (suc at) (drop (32 * suc at) list) after)))
+        rw (one-left n at h, e, d, add-one) (sym (append-assoc front (take 32 (drop (32 * at) list) ++ trace-of at m (take 32 (drop (32 * at) list))) (records-from (n - suc at) (suc at) (drop (32 * suc at) list) after)))
 
     pub run-stop : (k : ℕ) → step at m (take 32 (drop (32 * at) list)) ≡ calculator.refused k
         → front ++ records-from (n - at) at (drop (32 * at) list) m ≡ front ++ (take 32 (drop (32 * at) list) ++ trace-of at m (take 32 (drop (32 * at) list)))
     unfolding records-from
-    run-stop k e = rw (more, e) (ap (λ (t : List ℕ). front ++ t) (append-nil (take 32 (drop (32 * at) list) ++ trace-of at m (take 32 (drop (32 * at) list)))))
+    run-stop k e = rw (one-left n at h, e) (ap (λ (t : List ℕ). front ++ t) (append-nil (take 32 (drop (32 * at) list) ++ trace-of at m (take 32 (drop (32 * at) list)))))
 
 -- a record put behind those before it
 put-behind : (at : ℕ) (out y : List ℕ) → 64 * at ≤ length out → length y ≡ 64 → take (64 * (at + 1)) (putMid (64 * at) (64 * at + 64 - 64 * at) out y) ≡ take (64 * at) out ++ y

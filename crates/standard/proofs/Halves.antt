@@ -23,7 +23,7 @@ elements-append xs i (suc m) n =
     ap (elements xs i) (suc-add m n)
     ∙ ap (λ (r : List ℕ). getD xs i 0 ∷ r) (elements-append xs (suc i) m n ∙ ap (λ (k : ℕ). elements xs (suc i) m ++ elements xs k n) (suc-add i m ∙ sym (add-suc i m)))
 
-tail-elements : (x : ℕ) (xs : List ℕ) (i n : ℕ) → elements (x ∷ xs) (suc i) n ≡ elements xs i n
+pub tail-elements : (x : ℕ) (xs : List ℕ) (i n : ℕ) → elements (x ∷ xs) (suc i) n ≡ elements xs i n
 tail-elements x xs i zero = refl
 tail-elements x xs i (suc n) = ap (λ (r : List ℕ). getD xs i 0 ∷ r) (tail-elements x xs (suc i) n)
 

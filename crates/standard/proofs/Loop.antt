@@ -16,12 +16,6 @@ zipTo f (suc i) [] ys = []
 zipTo f (suc i) (x ∷ xs) [] = x ∷ xs
 zipTo f (suc i) (x ∷ xs) (y ∷ ys) = f x y ∷ zipTo f i xs ys
 
-pub length-zipTo : (f : ℕ → ℕ → ℕ) (i : ℕ) (xs ys : List ℕ) → length (zipTo f i xs ys) ≡ length xs
-length-zipTo f zero xs ys = refl
-length-zipTo f (suc i) [] ys = refl
-length-zipTo f (suc i) (x ∷ xs) [] = refl
-length-zipTo f (suc i) (x ∷ xs) (y ∷ ys) = ap suc (length-zipTo f i xs ys)
-
 zipTo-turn : (f : ℕ → ℕ → ℕ) (i : ℕ) (xs ys : List ℕ) → i < length xs → i < length ys
     → set (zipTo f i xs ys) i (f (getD (zipTo f i xs ys) i 0) (getD ys i 0)) ≡ zipTo f (suc i) xs ys
 zipTo-turn f i [] ys hx hy = absurd (not-suc-le-zero hx)

@@ -21,7 +21,7 @@ beq-self : (s : Bool) → Bool·beq s s ≡ true
 beq-self true = refl
 beq-self false = refl
 
-differs : (x : Float) → Ieee.ne x x ≡ isNan x
+pub differs : (x : Float) → Ieee.ne x x ≡ isNan x
 unfolding Ieee.ne isNan
 differs nan = refl
 differs (inf s) = rw beq-self

@@ -1,7 +1,8 @@
 -- `float_lane::F64::from_bits` meets its contract. Assumes nothing.
 use borrow.Author.Needs.{needs}
 use lib.Ieee.{binary64}
-use Rattle.float_lane.proofs.Nan.{fails, own-bits}
+use Rattle.standard.proofs.Nan.{fails}
+use Rattle.float_lane.proofs.Nan.{own-bits}
 use Rattle.float_lane.proofs.F64.from_bits.Statement.{statement}
 use Rattle.float_lane.proofs.F64.from_bits.Tie as tie
 
