@@ -1,7 +1,7 @@
 // What a run is asked for, before any step: judging the limit, the list's length and the place to take up from, where each test says what the later tests say
 // where it passes; and where the run stops.
 ghost use mathlib.Core.Path.{_≡_};
-ghost use Prim.Native.Nat.{_+_, _/_, _<_, _≤_};
+ghost use Prim.Native.Nat.{_+_, _/_, min};
 ghost use lib.Dec.{leb};
 ghost use Rattle.rules.specs.Definition.{unless, whole-steps, list-refusal};
 
@@ -46,7 +46,7 @@ pub fn judge(bytes: usize, place: usize, limit: usize) -> u8
 
 // Where a run of a list of n steps stops if no step is refused: at the limit or at the list's end, whichever is first.
 pub fn stop(n: usize, place: usize, limit: usize) -> usize
-    ensures { λ r. ⌜ (r ≤ n) × (r ≤ place + limit) × (r < n → r ≡ place + limit) × (place ≤ n → place ≤ r) ⌝ }
+    ensures { λ r. ⌜ r ≡ min n (place + limit) ⌝ }
 {
     if n <= place {
         return n;

@@ -23,7 +23,7 @@ abbrev μ-loop : tie.MeasureT-loop
 loop-holds : tie.Need-loop-holds Inv-loop μ-loop
 loop-holds c =
     let a = c .before .before .before .before .before .args in
-    (omega arith, c .before .before .before .stop .ensures .3 (omega arith), starts (length (now (a .list)) / 32) (a .place) (a .limit) (now (a .list)) _)
+    (omega arith, omega (arith, c .before .before .before .stop .ensures), starts (length (now (a .list)) / 32) (a .place) (a .limit) (now (a .list)) _)
 
 returns : tie.Need-returns Inv-loop μ-loop
 returns c =
@@ -33,8 +33,8 @@ returns c =
     let list = now (a .list) in
     let n = length list / 32 in
     let t = c .before .if1 .taken in
-    let more : l .at < n = omega (arith, k .before .before .before .before .before .before .before .before .before .stop .ensures .0) in
-    let allowed : l .at < a .place + a .limit = omega (arith, k .before .before .before .before .before .before .before .before .before .stop .ensures .1) in
+    let more : l .at < n = omega (arith, k .before .before .before .before .before .before .before .before .before .stop .ensures) in
+    let allowed : l .at < a .place + a .limit = omega (arith, k .before .before .before .before .before .before .before .before .before .stop .ensures) in
     let part : 32 * l .at + 32 - 32 * l .at ≡ 32 = omega arith in
     let e : step (l .at) (held (l .w) (l .writers) (l .scalar)) (take 32 (drop (32 * l .at) list)) ≡ refused (k .step .result .refused) = (rw (part, ne-eqb _ _ t) at (sym (k .step .ensures .0))) in
     let left = k .step .ensures .1 t in
@@ -48,8 +48,8 @@ loop-again c =
     let a = k .before .before .before .before .before .before .before .before .before .before .before .args in
     let list = now (a .list) in
     let n = length list / 32 in
-    let more : l .at < n = omega (arith, k .before .before .before .before .before .before .before .before .before .stop .ensures .0) in
-    let allowed : l .at < a .place + a .limit = omega (arith, k .before .before .before .before .before .before .before .before .before .stop .ensures .1) in
+    let more : l .at < n = omega (arith, k .before .before .before .before .before .before .before .before .before .stop .ensures) in
+    let allowed : l .at < a .place + a .limit = omega (arith, k .before .before .before .before .before .before .before .before .before .stop .ensures) in
     let part : 32 * l .at + 32 - 32 * l .at ≡ 32 = omega arith in
     let e : step (l .at) (held (l .w) (l .writers) (l .scalar)) (take 32 (drop (32 * l .at) list)) ≡ given (held (k .step .last .0) (k .step .last .1 .0) (k .step .result .scalar)) =
     (rw (part, c .if1 .left) at (sym (k .step .ensures .0))) in
@@ -64,7 +64,7 @@ returns-2 c =
     let n = length list / 32 in
     let q : s .result ≡ l .at = omega arith in
     let more : l .at < n = omega (arith, c .before .if2 .taken) in
-    let met : l .at ≡ a .place + a .limit = omega (arith, s .ensures .2 (c .before .if2 .taken)) in
+    let met : l .at ≡ a .place + a .limit = omega (arith, s .ensures, c .before .if2 .taken) in
     c .left2 .ensures ∙ rw q
     (sym (pauses-here n (a .place) (a .limit) (l .at) list (held (l .w) (l .writers) (l .scalar)) (l .inv .0) more met) ∙ l .inv .2 ∙ rw (c .before .before .before .before .before .words .ensures))
 
