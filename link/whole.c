@@ -35,8 +35,8 @@ static void list_registers(const uint64_t registers[32], const uint16_t writers[
 }
 
 static void list_scalar(gatulefo_kind_and_bits scalar) {
-    static const char *const kinds[] = {"?", "i32", "i64", "f32", "f64"};
-    printf("s %s %0*" PRIx64 "\n", kinds[scalar.kind], scalar.kind % 2 ? 8 : 16, scalar.bits);
+    static const char *const kinds[] = {"i32", "i64", "f32", "f64"};
+    printf("s %s %0*" PRIx64 "\n", kinds[scalar.kind], scalar.kind % 2 ? 16 : 8, scalar.bits);
 }
 
 static void run(size_t length, size_t place, size_t limit) {

@@ -11,7 +11,7 @@ use float_lane::F64;
 use lane::reinterpret::signed64;
 use operation::scalar::Scalar;
 
-// The calculator's scalar. Kind 1 is an i32, 2 an i64, 3 an f32, 4 an f64, and any other stands for 1; of a kind of 32 bits the low bits count.
+// The calculator's scalar. Kind 0 is an i32, 1 an i64, 2 an f32, 3 an f64, as in a recording, and any other stands for 0; of a kind of 32 bits the low bits count.
 #[repr(C)]
 pub struct KindAndBits {
     pub kind: u8,
@@ -65,13 +65,13 @@ pub fn scalar_of(given: KindAndBits) -> Scalar
 {
     let kind = given.kind;
     let bits = given.bits;
-    if kind == 2 {
+    if kind == 1 {
         return i64_of(bits);
     }
-    if kind == 3 {
+    if kind == 2 {
         return f32_of(low32(bits));
     }
-    if kind == 4 {
+    if kind == 3 {
         return f64_of(bits);
     }
     Scalar::of_bits(low32(bits))
@@ -82,10 +82,10 @@ pub fn kind_and_bits(scalar: Scalar) -> KindAndBits
 {
     let bits = scalar.bits();
     match scalar {
-        Scalar::I32(_) => KindAndBits { kind: 1, bits },
-        Scalar::I64(_) => KindAndBits { kind: 2, bits },
-        Scalar::F32(_) => KindAndBits { kind: 3, bits },
-        Scalar::F64(_) => KindAndBits { kind: 4, bits },
+        Scalar::I32(_) => KindAndBits { kind: 0, bits },
+        Scalar::I64(_) => KindAndBits { kind: 1, bits },
+        Scalar::F32(_) => KindAndBits { kind: 2, bits },
+        Scalar::F64(_) => KindAndBits { kind: 3, bits },
     }
 }
 

@@ -2,14 +2,14 @@
 use borrow.Author.Needs.{needs}
 use Prim.Native.Nat.{ℕ}
 use mathlib.Core.Path.{_≡_, refl}
-use Rattle.standard.specs.Instruction.{kind-number}
 use Rattle.operation.specs.Scalar.{kind-of, bits-of}
 use Rattle.operation.specs.declared.scalar.Scalar.{Scalar}
+use Rattle.records.specs.Definition.{kind-byte}
 use Rattle.handover.specs.Calculate.{scalar-numbers}
 use Rattle.handover.proofs.calculation.kind_and_bits.Statement.{statement}
 use Rattle.handover.proofs.calculation.kind_and_bits.Tie as tie
 
-numbers : (s : Scalar) (k b : ℕ) → kind-number (kind-of s) ≡ k → b ≡ bits-of s → (k, b) ≡ scalar-numbers (kind-of s) (bits-of s)
+numbers : (s : Scalar) (k b : ℕ) → kind-byte (kind-of s) ≡ k → b ≡ bits-of s → (k, b) ≡ scalar-numbers (kind-of s) (bits-of s)
 numbers s k b e f = rw (e, f) refl
 
 bits-requires : tie.Need-bits-requires
@@ -28,16 +28,16 @@ enum-told-4 : tie.Need-enum-told-4
 enum-told-4 c = search needs
 
 returns : tie.Need-returns
-returns c = numbers (c .before .before .before .args .scalar) 1 _ (rw (c .enum-told .given .1) refl) (c .before .before .bits .ensures)
+returns c = numbers (c .before .before .before .args .scalar) 0 _ (rw (c .enum-told .given .1) refl) (c .before .before .bits .ensures)
 
 returns-2 : tie.Need-returns-2
-returns-2 c = numbers (c .before .before .before .args .scalar) 2 _ (rw (c .enum-told2 .given .1) refl) (c .before .before .bits .ensures)
+returns-2 c = numbers (c .before .before .before .args .scalar) 1 _ (rw (c .enum-told2 .given .1) refl) (c .before .before .bits .ensures)
 
 returns-3 : tie.Need-returns-3
-returns-3 c = numbers (c .before .before .before .args .scalar) 3 _ (rw (c .enum-told3 .given .1) refl) (c .before .before .bits .ensures)
+returns-3 c = numbers (c .before .before .before .args .scalar) 2 _ (rw (c .enum-told3 .given .1) refl) (c .before .before .bits .ensures)
 
 returns-4 : tie.Need-returns-4
-returns-4 c = numbers (c .before .before .before .args .scalar) 4 _ (rw (c .enum-told4 .given .1) refl) (c .before .before .bits .ensures)
+returns-4 c = numbers (c .before .before .before .args .scalar) 3 _ (rw (c .enum-told4 .given .1) refl) (c .before .before .bits .ensures)
 
 pub kind-and-bits-spec : {M : Type 1} → statement M
 kind-and-bits-spec = tie.close (tie.spec bits-requires enum-told enum-told-2 enum-told-3 enum-told-4 returns returns-2 returns-3 returns-4)
