@@ -1,4 +1,4 @@
--- The arguments of programs, as lists of ASCII codes: decimal digits alone, at least one, a value below 2^32; or "exactly eight hex digits of either case".
+-- The arguments of programs, as lists of ASCII codes: decimal digits alone, at least one, a value below 2^32; or eight hex digits, of either case.
 use Prim.Native.Nat.{ℕ, _+_, _-_, _*_, _^_}
 use mathlib.Core.Bool.{cond, _&&_}
 use mathlib.Core.List.{List, [], _∷_}

@@ -55,7 +55,7 @@ pub fn decimal(text: &[u8]) -> Numeral
     spelt(text, 10)
 }
 
-// "exactly eight hex digits of either case"
+// Eight hex digits, of either case.
 pub fn eight_hex_digits(text: &[u8]) -> Numeral
     ensures { λ r. ⌜ numeral-of r ≡ eight-hex-digits (now (text .entry)) ⌝ }
 {

@@ -1,4 +1,4 @@
--- Promise 3, "The choice is never seen": runs of two lists that differ in marks alone, from any place under any limit, end alike. Assumes nothing.
+-- Promise 3: runs of two lists that differ in marks alone, from any place under any limit, end alike. Assumes nothing.
 use mathlib.Core.Path.{_≡_, refl, _∙_, ap, sym}
 use mathlib.Core.List.{List, _∷_, _++_}
 use Prim.Native.Nat.{ℕ, zero, suc, _+_, _-_, _*_, _/_, _%_, _<_, _≤_}

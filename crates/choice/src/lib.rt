@@ -1,5 +1,4 @@
-// An operation by the path that a mark asks for: "mark (0 lane by lane, anything else packed)". What it makes is the same, so no promise names the mark:
-// "The choice is never seen."
+// An operation by the path that a mark asks for: "mark (0 lane by lane, anything else packed)". What it makes is the same, so no promise names the mark.
 mod packed_form;
 
 ghost use mathlib.Core.Path.{_≡_};

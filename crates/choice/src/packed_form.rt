@@ -1,4 +1,4 @@
-// The packed forms: each half of a vector as one number. "A step with no packed form takes the other."
+// The packed forms: each half of a vector as one number. A step with no packed form is done lane by lane.
 ghost use mathlib.Core.Path.{_≡_};
 ghost use Rattle.standard.specs.Instruction.{instruction};
 ghost use Rattle.simd.specs.Number.{number};

@@ -8,6 +8,18 @@ ghost use lib.ListN.{length, take, drop};
 ghost use Rattle.finder.specs.Definition.{binary, bits, mark, window, distance, refusal, first-from, find};
 ghost use Rattle.finder.specs.Answer.{answer-of};
 
+// "tolerance above 8"
+const TOLERANCE: u8 = 8;
+
+// "L outside 64 to 65,536"
+const LENGTH: u8 = 9;
+
+// "buffer above 65,536 bytes or shorter than L + 32 bits"
+const BUFFER: u8 = 10;
+
+// "none": no position has both windows inside the buffer and within the tolerance.
+const NONE: u8 = 11;
+
 // Where the marker stands, with the distances of the window there and of the one a frame later; or the number of a refusal.
 pub enum Answer {
     Found(usize, u32, u32),
@@ -83,7 +95,7 @@ fn among(
             }
         }
     }
-    Answer::Refused(11)
+    Answer::Refused(NONE)
 }
 
 // The search among all positions whose two windows are inside the buffer. A word with no window within the tolerance is passed over.
@@ -125,9 +137,9 @@ fn is_short(buffer: &[u8], length: u32) -> bool
 fn refusal(buffer: &[u8], tolerance: u32, length: u32) -> u8
     ensures { λ r. ⌜ r ≡ refusal (now (buffer .entry)) tolerance length ⌝ }
 {
-    let later = first((buffer.len() > 65536) | is_short(buffer, length), 10, 0);
-    let later = first((length < 64) | (length > 65536), 9, later);
-    first(tolerance > 8, 8, later)
+    let later = first((buffer.len() > 65536) | is_short(buffer, length), BUFFER, 0);
+    let later = first((length < 64) | (length > 65536), LENGTH, later);
+    first(tolerance > 8, TOLERANCE, later)
 }
 
 // The answer to any buffer, marker, tolerance and length of frame.

@@ -17,7 +17,7 @@ fn main() {
     let mut list = [0u8; 8193];
     let reading = input::read_to(&mut list);
     if reading.failed {
-        os::fail(b"standard input");
+        os::fail(b"lanes: standard input");
         return;
     }
     let n = reading.bytes;

@@ -1,2 +1,2 @@
-// The layout of a field recording (document 02, order 8): a file judged, and records packed into one.
+// The layout of a field recording (document 02, order 8): a file judged.
 pub mod judge;

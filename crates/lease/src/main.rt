@@ -68,7 +68,7 @@ fn write_all_turns(list: &[u8], place: u32, limit: u32) {
         let done = before + ending.done;
         let outcome = ending.outcome;
         if !line(ending.done, outcome) {
-            os::fail(b"standard output");
+            os::fail(b"lease: standard output");
             return;
         }
         match outcome {
@@ -104,7 +104,7 @@ fn main() {
     let mut list = [0u8; 8193];
     let reading = input::read_to(&mut list);
     if reading.failed {
-        os::fail(b"standard input");
+        os::fail(b"lease: standard input");
         return;
     }
     let n = reading.bytes;

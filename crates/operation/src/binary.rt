@@ -11,8 +11,8 @@ pub fn binary(op: u16, a: V128, b: V128) -> V128
     ensures { λ r. ⌜ number r ≡ as-binary (instruction op) (number a) (number b) ⌝ }
 {
     match op {
-        0..=54 => compare_narrow(op, a, b),
-        55..=76 => compare_wide(op, a, b),
+        0..=54 => compare_i8x16_and_i16x8(op, a, b),
+        55..=76 => compare_i32x4_and_floats(op, a, b),
         77..=129 => i8x16(op, a, b),
         130..=159 => i16x8(op, a, b),
         160..=191 => i32x4(op, a, b),
@@ -22,8 +22,8 @@ pub fn binary(op: u16, a: V128, b: V128) -> V128
     }
 }
 
-// swizzle, and comparisons of i8x16 and i16x8.
-fn compare_narrow(op: u16, a: V128, b: V128) -> V128
+// Swizzle too.
+fn compare_i8x16_and_i16x8(op: u16, a: V128, b: V128) -> V128
     requires { ⌜ op < 55 ⌝ }
     ensures { λ r. ⌜ number r ≡ as-binary (instruction op) (number a) (number b) ⌝ }
 {
@@ -53,8 +53,7 @@ fn compare_narrow(op: u16, a: V128, b: V128) -> V128
     }
 }
 
-// comparisons of i32x4 and of floats.
-fn compare_wide(op: u16, a: V128, b: V128) -> V128
+fn compare_i32x4_and_floats(op: u16, a: V128, b: V128) -> V128
     requires { ⌜ (55 ≤ op) × (op < 77) ⌝ }
     ensures { λ r. ⌜ number r ≡ as-binary (instruction op) (number a) (number b) ⌝ }
 {
@@ -85,7 +84,7 @@ fn compare_wide(op: u16, a: V128, b: V128) -> V128
     }
 }
 
-// bitwise operations, and i8x16.
+// Bitwise operations too.
 fn i8x16(op: u16, a: V128, b: V128) -> V128
     requires { ⌜ (77 ≤ op) × (op < 130) ⌝ }
     ensures { λ r. ⌜ number r ≡ as-binary (instruction op) (number a) (number b) ⌝ }
@@ -112,7 +111,6 @@ fn i8x16(op: u16, a: V128, b: V128) -> V128
     }
 }
 
-// i16x8.
 fn i16x8(op: u16, a: V128, b: V128) -> V128
     requires { ⌜ (130 ≤ op) × (op < 160) ⌝ }
     ensures { λ r. ⌜ number r ≡ as-binary (instruction op) (number a) (number b) ⌝ }
@@ -141,7 +139,6 @@ fn i16x8(op: u16, a: V128, b: V128) -> V128
     }
 }
 
-// i32x4.
 fn i32x4(op: u16, a: V128, b: V128) -> V128
     requires { ⌜ (160 ≤ op) × (op < 192) ⌝ }
     ensures { λ r. ⌜ number r ≡ as-binary (instruction op) (number a) (number b) ⌝ }
@@ -163,7 +160,6 @@ fn i32x4(op: u16, a: V128, b: V128) -> V128
     }
 }
 
-// i64x2.
 fn i64x2(op: u16, a: V128, b: V128) -> V128
     requires { ⌜ (192 ≤ op) × (op < 224) ⌝ }
     ensures { λ r. ⌜ number r ≡ as-binary (instruction op) (number a) (number b) ⌝ }
@@ -186,7 +182,6 @@ fn i64x2(op: u16, a: V128, b: V128) -> V128
     }
 }
 
-// f32x4 and f64x2.
 fn floats(op: u16, a: V128, b: V128) -> V128
     requires { ⌜ (224 ≤ op) × (op < 256) ⌝ }
     ensures { λ r. ⌜ number r ≡ as-binary (instruction op) (number a) (number b) ⌝ }
@@ -212,7 +207,6 @@ fn floats(op: u16, a: V128, b: V128) -> V128
     }
 }
 
-// The relaxed instructions.
 fn relaxed(op: u16, a: V128, b: V128) -> V128
     requires { ⌜ 256 ≤ op ⌝ }
     ensures { λ r. ⌜ number r ≡ as-binary (instruction op) (number a) (number b) ⌝ }

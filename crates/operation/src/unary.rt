@@ -11,14 +11,14 @@ pub fn unary(op: u16, a: V128) -> V128
     ensures { λ r. ⌜ number r ≡ as-unary (instruction op) (number a) ⌝ }
 {
     match op {
-        0..=127 => narrow(op, a),
-        128..=191 => wide(op, a),
-        _ => wider(op, a),
+        0..=127 => v128_and_i8x16(op, a),
+        128..=191 => i16x8_and_i32x4(op, a),
+        _ => i64x2_and_floats(op, a),
     }
 }
 
-// v128, i8x16, pairwise sums, and floats that stand between them.
-fn narrow(op: u16, a: V128) -> V128
+// Pairwise sums too, and the floats whose numbers stand between them.
+fn v128_and_i8x16(op: u16, a: V128) -> V128
     requires { ⌜ op < 128 ⌝ }
     ensures { λ r. ⌜ number r ≡ as-unary (instruction op) (number a) ⌝ }
 {
@@ -44,8 +44,7 @@ fn narrow(op: u16, a: V128) -> V128
     }
 }
 
-// i16x8 and i32x4.
-fn wide(op: u16, a: V128) -> V128
+fn i16x8_and_i32x4(op: u16, a: V128) -> V128
     requires { ⌜ (128 ≤ op) × (op < 192) ⌝ }
     ensures { λ r. ⌜ number r ≡ as-unary (instruction op) (number a) ⌝ }
 {
@@ -67,8 +66,7 @@ fn wide(op: u16, a: V128) -> V128
     }
 }
 
-// i64x2 and floats.
-fn wider(op: u16, a: V128) -> V128
+fn i64x2_and_floats(op: u16, a: V128) -> V128
     requires { ⌜ 192 ≤ op ⌝ }
     ensures { λ r. ⌜ number r ≡ as-unary (instruction op) (number a) ⌝ }
 {

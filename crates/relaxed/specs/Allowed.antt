@@ -1,5 +1,5 @@
 -- What WebAssembly 3.0 allows the relaxed instructions to give ("Relaxed Operations" of its numerics): a set of values for each lane. The set is the list of
--- what its parameters choose from; of the NaNs that it leaves open only the canonical ones are listed, so the sets here are the smaller ones.
+-- what its parameters choose from; of the NaNs that it leaves open only the canonical ones and the operands are listed, so the sets here are the smaller ones.
 use Prim.Native.Nat.{ℕ, _-_, _/_, _%_, _^_}
 use mathlib.Core.Bool.{cond, _&&_, _||_}
 use mathlib.Core.List.{List, [], _∷_}

@@ -1,5 +1,5 @@
 // One lane of the 16-bit dot. What the relaxed instructions give is `standard/specs/Relaxed.antt`, what WebAssembly 3.0 allows is `specs/Allowed.antt`, and
-// that the first is among the second is `proofs/Theorems.antt`.
+// that the first is among the second, but for dots that meet four −128, is `proofs/Theorems.antt`.
 ghost use mathlib.Core.Path.{_≡_};
 ghost use Rattle.standard.specs.Integer.{iadd};
 ghost use Rattle.wide_lane.specs.Widen.{pair-product};

@@ -65,7 +65,7 @@ pub fn judge(shape: Shape, held: Kind, s: &[u8]) -> u8
     let a = byte(s, 3);
     let b = byte(s, 4);
     let c = byte(s, 5);
-    let place = byte(s, 6);
+    let number = byte(s, 6);
     match shape {
         Shape::None => OPERATION,
         Shape::Constant => register(to, 0),
@@ -76,10 +76,10 @@ pub fn judge(shape: Shape, held: Kind, s: &[u8]) -> u8
         Shape::Shift => register(a, register(to, kind(held, Kind::I32, 0))),
         Shape::Test => register(a, 0),
         Shape::Splat(read) => register(to, kind(held, read, 0)),
-        Shape::Extract(lanes) => register(a, lane(place, lanes, 0)),
+        Shape::Extract(lanes) => register(a, lane(number, lanes, 0)),
         Shape::Replace(lanes, read) => register(
             a,
-            register(to, lane(place, lanes, kind(held, read, 0))),
+            register(to, lane(number, lanes, kind(held, read, 0))),
         ),
     }
 }

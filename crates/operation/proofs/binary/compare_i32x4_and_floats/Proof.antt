@@ -1,14 +1,14 @@
--- `operation::binary::compare_wide` meets its contract: each arm by its method's promise, at the number that led there. Assumes nothing.
+-- `operation::binary::compare_i32x4_and_floats` meets its contract: each arm by its method's promise, at the number that led there. Assumes nothing.
 use Rattle.standard.specs.Instruction.{table, instruction}
 use Rattle.operation.specs.Family.{families}
 use Rattle.operation.proofs.Calls.{nothing}
 use Rattle.operation.proofs.Others.{between}
-use Rattle.operation.proofs.binary.compare_wide.Statement.{statement}
-use Rattle.operation.proofs.binary.compare_wide.Tie as tie
+use Rattle.operation.proofs.binary.compare_i32x4_and_floats.Statement.{statement}
+use Rattle.operation.proofs.binary.compare_i32x4_and_floats.Tie as tie
 
-pub compare-wide-spec : {M : Type 1} → statement M
+pub compare-i32x4-and-floats-spec : {M : Type 1} → statement M
 unfolding instruction table
-compare-wide-spec =
+compare-i32x4-and-floats-spec =
     tie.close
     (tie.spec
     nothing nothing nothing nothing nothing nothing nothing nothing nothing nothing nothing nothing nothing nothing nothing nothing nothing nothing

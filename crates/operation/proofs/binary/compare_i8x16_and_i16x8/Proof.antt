@@ -1,14 +1,14 @@
--- `operation::binary::compare_narrow` meets its contract: each arm by its method's promise, at the number that led there. Assumes nothing.
+-- `operation::binary::compare_i8x16_and_i16x8` meets its contract: each arm by its method's promise, at the number that led there. Assumes nothing.
 use Rattle.standard.specs.Instruction.{table, instruction}
 use Rattle.operation.specs.Family.{families}
 use Rattle.operation.proofs.Calls.{nothing}
 use Rattle.operation.proofs.Others.{below}
-use Rattle.operation.proofs.binary.compare_narrow.Statement.{statement}
-use Rattle.operation.proofs.binary.compare_narrow.Tie as tie
+use Rattle.operation.proofs.binary.compare_i8x16_and_i16x8.Statement.{statement}
+use Rattle.operation.proofs.binary.compare_i8x16_and_i16x8.Tie as tie
 
-pub compare-narrow-spec : {M : Type 1} → statement M
+pub compare-i8x16-and-i16x8-spec : {M : Type 1} → statement M
 unfolding instruction table
-compare-narrow-spec =
+compare-i8x16-and-i16x8-spec =
     tie.close
     (tie.spec
     nothing nothing nothing nothing nothing nothing nothing nothing nothing nothing nothing nothing nothing nothing nothing nothing nothing nothing

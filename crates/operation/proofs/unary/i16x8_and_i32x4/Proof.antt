@@ -1,14 +1,14 @@
--- `operation::unary::wide` meets its contract: each arm by its method's promise, at the number that led there. Assumes nothing.
+-- `operation::unary::i16x8_and_i32x4` meets its contract: each arm by its method's promise, at the number that led there. Assumes nothing.
 use Rattle.standard.specs.Instruction.{table, instruction}
 use Rattle.operation.specs.Family.{families}
 use Rattle.operation.proofs.Calls.{nothing}
 use Rattle.operation.proofs.Others.{between}
-use Rattle.operation.proofs.unary.wide.Statement.{statement}
-use Rattle.operation.proofs.unary.wide.Tie as tie
+use Rattle.operation.proofs.unary.i16x8_and_i32x4.Statement.{statement}
+use Rattle.operation.proofs.unary.i16x8_and_i32x4.Tie as tie
 
-pub wide-spec : {M : Type 1} → statement M
+pub i16x8-and-i32x4-spec : {M : Type 1} → statement M
 unfolding instruction table
-wide-spec =
+i16x8-and-i32x4-spec =
     tie.close
     (tie.spec
     nothing nothing nothing nothing nothing nothing nothing nothing nothing nothing nothing nothing nothing

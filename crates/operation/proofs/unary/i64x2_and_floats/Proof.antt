@@ -1,15 +1,15 @@
--- `operation::unary::wider` meets its contract: each arm by its method's promise, at the number that led there. Assumes nothing.
+-- `operation::unary::i64x2_and_floats` meets its contract: each arm by its method's promise, at the number that led there. Assumes nothing.
 use mathlib.Core.Path.{refl}
 use Rattle.standard.specs.Instruction.{table, instruction}
 use Rattle.operation.specs.Family.{families}
 use Rattle.operation.proofs.Calls.{nothing}
 use Rattle.operation.proofs.Others.{from}
-use Rattle.operation.proofs.unary.wider.Statement.{statement}
-use Rattle.operation.proofs.unary.wider.Tie as tie
+use Rattle.operation.proofs.unary.i64x2_and_floats.Statement.{statement}
+use Rattle.operation.proofs.unary.i64x2_and_floats.Tie as tie
 
-pub wider-spec : {M : Type 1} → statement M
+pub i64x2-and-floats-spec : {M : Type 1} → statement M
 unfolding instruction table
-wider-spec =
+i64x2-and-floats-spec =
     tie.close
     (tie.spec
     nothing nothing nothing nothing nothing nothing nothing nothing nothing nothing nothing nothing nothing nothing nothing nothing nothing nothing

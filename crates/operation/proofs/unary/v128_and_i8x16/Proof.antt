@@ -1,14 +1,14 @@
--- `operation::unary::narrow` meets its contract: each arm by its method's promise, at the number that led there. Assumes nothing.
+-- `operation::unary::v128_and_i8x16` meets its contract: each arm by its method's promise, at the number that led there. Assumes nothing.
 use Rattle.standard.specs.Instruction.{table, instruction}
 use Rattle.operation.specs.Family.{families}
 use Rattle.operation.proofs.Calls.{nothing}
 use Rattle.operation.proofs.Others.{below}
-use Rattle.operation.proofs.unary.narrow.Statement.{statement}
-use Rattle.operation.proofs.unary.narrow.Tie as tie
+use Rattle.operation.proofs.unary.v128_and_i8x16.Statement.{statement}
+use Rattle.operation.proofs.unary.v128_and_i8x16.Tie as tie
 
-pub narrow-spec : {M : Type 1} → statement M
+pub v128-and-i8x16-spec : {M : Type 1} → statement M
 unfolding instruction table
-narrow-spec =
+v128-and-i8x16-spec =
     tie.close
     (tie.spec
     nothing nothing nothing nothing nothing nothing nothing nothing nothing nothing nothing nothing nothing nothing nothing nothing nothing
