@@ -1,4 +1,4 @@
-//! Every input of one lane, for functions of one lane of 32 bits: every number of 32 bits in an even and in an odd place of the low and of the high half, or as the
+//! Every input of one lane, for functions of one lane of 32 bits: every number of 32 bits in one place of the low and in the other place of the high half, or as the
 //! scalar of a splat.
 
 use crate::port;

@@ -104,7 +104,7 @@ fn fixed(random: &mut Random) -> Vec<Rows> {
     rows
 }
 
-/// Any operation and any two lengths, as often the same as not.
+/// Any operation and any two lengths, mostly the same.
 fn any(random: &mut Random) -> Rows {
     let operation = random.below(3) as u8;
     let n = random.below(ROOM as u64 + 1) as usize;

@@ -6,7 +6,7 @@ use super::vectors::{corner_pairs, corner_places};
 use super::Generator;
 use crate::table::Lane;
 
-/// Random pairs of lanes for each function of float arithmetic.
+/// Random pairs of lanes for each function of float arithmetic, or more where as many vectors are asked for.
 const PAIRS: usize = 1_000_000;
 
 /// A float format: its width and the bits of its fraction.
@@ -68,9 +68,10 @@ fn close(lane: Lane, a: u64, random: &mut Random) -> u64 {
 
 pub fn arithmetic(generator: &mut Generator, lane: Lane) {
     let lanes = Lanes { lane, corners: rounding_corners(lane) };
+    let half = (PAIRS / lane.count()).max(generator.many) / 2;
     corner_pairs(generator, &lanes);
     generator.section("close exponents");
-    for _ in 0..PAIRS / 2 / lane.count() {
+    for _ in 0..half {
         generator.add(|request, random| {
             for place in 0..lane.count() {
                 let a = lanes.get(&request.a, place);
@@ -79,7 +80,7 @@ pub fn arithmetic(generator: &mut Generator, lane: Lane) {
         });
     }
     generator.section("random");
-    for _ in 0..PAIRS / 2 / lane.count() {
+    for _ in 0..half {
         generator.add(|request, random| (request.a, request.b) = (lanes.vector(random), lanes.vector(random)));
     }
 }

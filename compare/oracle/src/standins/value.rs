@@ -12,7 +12,7 @@ macro_rules! impl_float {
     ( $( $ty:ty ),* ) => { $(
         impl Float for $ty {
             fn mul_add(_a: Self, _b: Self, _c: Self) -> Self {
-                unimplemented!("not a base operation")
+                unimplemented!("not carried over")
             }
         }
     )* };
