@@ -10,8 +10,8 @@
  * No call needs anything of its numbers. Of its pointers it needs what a reference of Rust needs: each points to as many elements as it says, is not null (where the
  * length is 0 too) and is aligned; what is written through one, nothing else reads or writes until the call returns.
  *
- * The line above a declaration is the function's promise, over the definitions of crates/standard/specs. There `number` is the number of a vector's 128 bits, and `r` is
- * what comes back.
+ * The line above a declaration is the function's promise. Its words stand in crates/standard/specs, and in the specs of the crates that its source names. `number` is the
+ * number of a vector's 128 bits, and `r` is what comes back.
  */
 #ifndef GATULEFO_H
 #define GATULEFO_H
@@ -30,7 +30,7 @@ typedef struct {
     uint64_t hi;
 } gatulefo_v128;
 
-/* The calculator's scalar. Kind 1 is an i32, 2 an i64, 3 an f32, 4 an f64, and any other stands for 1; of a kind of 32 bits the low bits count. */
+/* The calculator's scalar. Kind 0 is an i32, 1 an i64, 2 an f32, 3 an f64, as in a recording, and any other stands for 0; of a kind of 32 bits the low bits count. */
 typedef struct {
     uint8_t kind;
     uint64_t bits;
@@ -821,7 +821,7 @@ uint32_t gatulefo_i64x2_bitmask(gatulefo_v128 v);
 bool gatulefo_v128_any_true(gatulefo_v128 v);
 
 /* The relaxed instructions of WebAssembly 3.0 that are carried over, each as the Rust chooses: the plain operation, and the two dots. What 3.0 allows, and
- * that each answer is among it, is the crate `relaxed`. */
+ * that each answer is among it, but for dots that meet four −128, is the crate `relaxed`. */
 
 /* number r ≡ relaxed-dot (number lhs) (number rhs) */
 gatulefo_v128 gatulefo_i16x8_relaxed_dot_i8x16_i7x16_s(gatulefo_v128 lhs, gatulefo_v128 rhs);

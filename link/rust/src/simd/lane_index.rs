@@ -29,7 +29,7 @@ into_lane_index! {
     f64 => 2;
 }
 
-/// A byte with values in the range 0 to N identifying a lane.
+/// A byte with values in the range 0 to N − 1 identifying a lane.
 #[derive(Debug, Copy, Clone, PartialEq, Eq)]
 pub struct ImmLaneIdx<const N: u8>(u8);
 
