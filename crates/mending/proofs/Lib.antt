@@ -6,3 +6,4 @@ pub mod Theorems
 pub mod Spread
 pub mod Blocks
 pub mod Files
+pub mod Recordings
