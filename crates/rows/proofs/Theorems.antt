@@ -5,11 +5,13 @@ use Prim.Native.Nat.{ℕ, zero, suc, _<_}
 use native.Mathlib.Nat.{not-suc-le-zero, le-of-suc-le-suc, suc-ne-zero}
 use lib.ListN.{length, getD}
 use Rattle.standard.specs.Lanes.{zip}
+use Rattle.standard.proofs.Loop.{zip-map}
 use Rattle.simd.specs.Number.{number}
 use Rattle.simd.specs.declared.V128.{V128}
 use Rattle.simd.proofs.Coincide.{Held, vectors-coincide}
 use Rattle.half_rows.specs.Rows.{after}
 use Rattle.rows.specs.Answer.{Combined, Mapped}
+use Rattle.rows.proofs.Numbers.{alone}
 
 abbrev HeldAll : List V128 → Type 0
 HeldAll [] = Unit {0}
@@ -37,13 +39,19 @@ combined-coincide f xs ys r q zs us hz hu (er, ez) (eq, eu) =
 pub mapped-coincide : (f : ℕ → ℕ) (xs zs us : List V128) → HeldAll zs → HeldAll us → Mapped f xs zs → Mapped f xs us → zs ≡ us
 mapped-coincide f xs zs us hz hu ez eu = row-coincides zs us hz hu (ez ∙ sym eu)
 
+-- a place of two rows
+at-place : (f : ℕ → ℕ → ℕ) (i : ℕ) (xs ys zs : List V128) (d : V128) → i < length xs → i < length ys → map number zs ≡ zip f (map number xs) (map number ys)
+    → number (getD zs i d) ≡ f (number (getD xs i d)) (number (getD ys i d))
+at-place f i [] ys zs d hx hy e = absurd (not-suc-le-zero hx)
+at-place f i (x ∷ xs) [] zs d hx hy e = absurd (not-suc-le-zero hy)
+at-place f i (x ∷ xs) (y ∷ ys) [] d hx hy e = absurd (suc-ne-zero _ (sym (ap length e)))
+at-place f zero (x ∷ xs) (y ∷ ys) (z ∷ zs) d hx hy e = ap first-of e
+at-place f (suc i) (x ∷ xs) (y ∷ ys) (z ∷ zs) d hx hy e = at-place f i xs ys zs d (le-of-suc-le-suc hx) (le-of-suc-le-suc hy) (ap rest-of e)
+
 -- "Equal, element by element, to the single operation": at each place i of rows that are not refused, f of the two vectors
 pub element : (f : ℕ → ℕ → ℕ) (xs ys zs : List V128) (i : ℕ) (d : V128) → i < length xs → i < length ys → Combined f xs ys 0 zs → number (getD zs i d) ≡ f (number (getD xs i d)) (number (getD ys i d))
-element f xs ys zs i d hx hy (e, ez) = at i xs ys zs hx hy ez
-  where
-    at : (i : ℕ) (xs ys zs : List V128) → i < length xs → i < length ys → map number zs ≡ zip f (map number xs) (map number ys) → number (getD zs i d) ≡ f (number (getD xs i d)) (number (getD ys i d))
-    at i [] ys zs hx hy e = absurd (not-suc-le-zero hx)
-    at i (x ∷ xs) [] zs hx hy e = absurd (not-suc-le-zero hy)
-    at i (x ∷ xs) (y ∷ ys) [] hx hy e = absurd (suc-ne-zero _ (sym (ap length e)))
-    at zero (x ∷ xs) (y ∷ ys) (z ∷ zs) hx hy e = ap first-of e
-    at (suc i) (x ∷ xs) (y ∷ ys) (z ∷ zs) hx hy e = at i xs ys zs (le-of-suc-le-suc hx) (le-of-suc-le-suc hy) (ap rest-of e)
+element f xs ys zs i d hx hy (e, ez) = at-place f i xs ys zs d hx hy ez
+
+-- and at each place i of one row, f of the vector
+pub element-alone : (f : ℕ → ℕ) (xs zs : List V128) (i : ℕ) (d : V128) → i < length xs → Mapped f xs zs → number (getD zs i d) ≡ f (number (getD xs i d))
+element-alone f xs zs i d h e = at-place (alone f) i xs xs zs d h h (e ∙ sym (zip-map f (map number xs)))
