@@ -6,7 +6,6 @@ ghost use Rattle.rules.specs.Definition;
 ghost use Rattle.state.specs.State.{machine, held};
 ghost use Rattle.calculator.specs.Run.{outcome-of, ends, ending-of};
 use operation::scalar::Scalar;
-use rules::lease;
 use state::State;
 use state::registers::of_words;
 use state::registers::words;
@@ -52,7 +51,7 @@ fn steps(state: State, list: &[u8], place: usize, limit: usize) -> Ending
     ensures { λ r. ⌜ ending-of r ≡ Definition.steps (length (now (list .entry)) / 32 - place) limit place (drop (32 * place) (now (list .entry))) (machine state) ⌝ }
 {
     let n = list.len() / 32;
-    let end = lease::stop(n, place, limit);
+    let end = limits::stop(n, place, limit);
     let all = state.registers;
     let mut w = words(all);
     let mut writers = state.writers;
@@ -79,7 +78,7 @@ fn steps(state: State, list: &[u8], place: usize, limit: usize) -> Ending
 pub fn run(state: State, list: &[u8], place: usize, limit: usize) -> Ending
     ensures { λ r. ⌜ ending-of r ≡ Definition.run (now (list .entry)) place limit (machine state) ⌝ }
 {
-    let refused = lease::judge(list.len(), place, limit);
+    let refused = limits::judge(list.len(), place, limit);
     if refused == 0 {
         steps(state.taken_up(place), list, place, limit)
     } else {

@@ -4,7 +4,7 @@ mod packed_form;
 ghost use mathlib.Core.Path.{_≡_};
 ghost use Rattle.standard.specs.Instruction.{instruction};
 ghost use Rattle.simd.specs.Number.{number};
-ghost use Rattle.operation.specs.Family.{as-unary, as-binary, as-shift, as-test};
+ghost use Rattle.families.specs.Family.{as-unary, as-binary, as-shift, as-test};
 use simd::V128;
 
 pub fn unary(op: u16, mark: u8, a: V128) -> V128
@@ -21,7 +21,7 @@ pub fn binary(op: u16, mark: u8, a: V128, b: V128) -> V128
     ensures { λ r. ⌜ number r ≡ as-binary (instruction op) (number a) (number b) ⌝ }
 {
     if mark == 0 {
-        operation::binary::binary(op, a, b)
+        operation_binary::binary(op, a, b)
     } else {
         packed_form::binary(op, a, b)
     }

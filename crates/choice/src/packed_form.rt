@@ -2,8 +2,7 @@
 ghost use mathlib.Core.Path.{_≡_};
 ghost use Rattle.standard.specs.Instruction.{instruction};
 ghost use Rattle.simd.specs.Number.{number};
-ghost use Rattle.operation.specs.Family.{as-unary, as-binary, as-shift, as-test};
-use operation::binary;
+ghost use Rattle.families.specs.Family.{as-unary, as-binary, as-shift, as-test};
 use operation::shift;
 use operation::test;
 use operation::test::truth;
@@ -41,7 +40,7 @@ pub fn binary(op: u16, a: V128, b: V128) -> V128
         206 => packed_vector::i64x2_add(a, b),
         209 => packed_vector::i64x2_sub(a, b),
         214 => packed_vector::i64x2_eq(a, b),
-        _ => binary::binary(op, a, b),
+        _ => operation_binary::binary(op, a, b),
     }
 }
 

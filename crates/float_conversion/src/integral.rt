@@ -4,7 +4,7 @@
 ghost use mathlib.Core.Path.{_≡_};
 ghost use lib.Ieee.{binary32, binary64, ofBits, toBits};
 ghost use Rattle.standard.specs.Convert.{ftrunc, ffloor, fceil, fnearest};
-ghost use Rattle.float_conversion.specs.Integral.{rounded, rises};
+ghost use Rattle.float_pattern.specs.Integral.{rounded, rises};
 use crate::*;
 
 // A half has the pattern 0x3F00_0000.

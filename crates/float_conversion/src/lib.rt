@@ -6,7 +6,7 @@ ghost use mathlib.Core.Bool.{false, cond};
 ghost use Prim.Native.Nat.{_/_, _^_, _<_};
 ghost use lib.Ieee.{binary64, round, toBits};
 ghost use lib.Ieee.Nearest.{closest};
-ghost use Rattle.float_conversion.specs.Integral.{lift};
+ghost use Rattle.float_pattern.specs.Integral.{lift};
 
 pub mod cast;
 pub mod integral;

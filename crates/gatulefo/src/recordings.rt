@@ -1,7 +1,7 @@
 // Field recordings (document 02, orders 8 and 10): a list's run recorded, a recording replayed, and a damaged one mended.
 ghost use mathlib.Core.Path.{_≡_};
 ghost use Rattle.records.specs.Definition.{recorded, replay};
-ghost use Rattle.mending.specs.Definition.{mending};
+ghost use Rattle.mending_rules.specs.Definition.{mending};
 ghost use Rattle.handover.specs.Mending.{mended-of};
 ghost use Rattle.handover.specs.Recording.{record-numbers, left-by-recorder, replay-numbers, replayed};
 use handover::mended::MendAnswer;

@@ -7,8 +7,8 @@ ghost use Rattle.standard.specs.Integer.{iadd, ixor, ipopcnt};
 ghost use Rattle.standard.specs.Lanes.{unary, binary, zip};
 ghost use Rattle.half_rows.specs.Rows.{vectors, halves, half-refusal, after};
 ghost use Rattle.half_rows.specs.Choose.{vector-of, half-of};
-use packed::arithmetic::add8;
-use packed::popcnt::popcnt8;
+use packed_count::popcnt8;
+use packed_sum::arithmetic::add8;
 
 // "12 when the two rows differ in length or a row of halves is odd".
 const UNEVEN: u8 = 12;

@@ -1,5 +1,5 @@
 -- What C is handed of mending.
-use Rattle.mending.specs.Definition as definition
+use Rattle.mending_rules.specs.Definition as definition
 use Rattle.handover.specs.declared.mended.MendAnswer.{MendAnswer}
 
 abbrev pub mended-of : MendAnswer → definition.Mending

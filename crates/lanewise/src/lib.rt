@@ -10,8 +10,8 @@ use lane::arithmetic::*;
 use lane::compare::*;
 use lane::shift::*;
 use relaxed::dot16;
-use wide_lane::saturate::*;
-use wide_lane::widen::*;
+use wide_lane::*;
+use width_lane::*;
 
 pub const NEG: u8 = 0;
 

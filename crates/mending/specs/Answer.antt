@@ -1,5 +1,5 @@
 -- What an answer of the code stands for.
-use Rattle.mending.specs.Definition as definition
+use Rattle.mending_rules.specs.Definition as definition
 use Rattle.mending.specs.declared.Mending.{Mending}
 
 abbrev pub mending-of : Mending → definition.Mending

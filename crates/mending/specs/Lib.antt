@@ -1,3 +1,1 @@
-pub mod Definition
 pub mod Answer
-pub mod Place

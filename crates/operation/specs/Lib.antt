@@ -1,2 +1,1 @@
 pub mod Scalar
-pub mod Family

@@ -4,7 +4,7 @@ ghost use Rattle.standard.specs.Instruction.{i32, i64, f32, f64, instruction};
 ghost use Rattle.simd.specs.Number.{number};
 ghost use Rattle.simd.specs.Answer.{i32-answer, u32-answer, i64-answer, f32-answer, f64-answer};
 ghost use Rattle.operation.specs.Scalar.{scalar-of};
-ghost use Rattle.operation.specs.Family.{of-kind, as-extract};
+ghost use Rattle.families.specs.Family.{of-kind, as-extract};
 use crate::scalar::Scalar;
 use simd::V128;
 use simd::answer::F32Answer;

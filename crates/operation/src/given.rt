@@ -2,7 +2,7 @@
 ghost use mathlib.Core.Path.{_≡_};
 ghost use Rattle.simd.specs.Number.{number};
 ghost use Rattle.simd.specs.Answer.{vector-answer};
-ghost use Rattle.operation.specs.Family.{given-or};
+ghost use Rattle.families.specs.Family.{given-or};
 use simd::V128;
 use simd::answer::VectorAnswer;
 

@@ -1,5 +1,4 @@
 // An operation by the standard's number, lane by lane: a function for each family, by the methods of the vector; and the calculator's scalar.
-pub mod binary;
 pub mod extract;
 pub mod given;
 pub mod replace;

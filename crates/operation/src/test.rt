@@ -3,7 +3,7 @@ ghost use mathlib.Core.Path.{_≡_};
 ghost use mathlib.Core.Bool.{cond};
 ghost use Rattle.standard.specs.Instruction.{instruction};
 ghost use Rattle.simd.specs.Number.{number};
-ghost use Rattle.operation.specs.Family.{as-test};
+ghost use Rattle.families.specs.Family.{as-test};
 use simd::V128;
 
 // Any-true and all-true are 1 or 0.

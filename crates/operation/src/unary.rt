@@ -3,7 +3,7 @@ ghost use mathlib.Core.Path.{_≡_};
 ghost use Prim.Native.Nat.{_≤_, _<_};
 ghost use Rattle.standard.specs.Instruction.{instruction};
 ghost use Rattle.simd.specs.Number.{number};
-ghost use Rattle.operation.specs.Family.{as-unary};
+ghost use Rattle.families.specs.Family.{as-unary};
 use simd::V128;
 
 // Of a number of another family: the vector as it is.

@@ -7,4 +7,3 @@ pub mod Shifts
 pub mod Mean
 pub mod Ones
 pub mod Signs
-pub mod Table

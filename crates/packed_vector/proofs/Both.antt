@@ -16,7 +16,7 @@ use Rattle.standard.proofs.Digits.{length-digits, joined-append}
 use Rattle.standard.proofs.Halves.{lanes-halves, unary-halves, binary-halves, map-append}
 use Rattle.packed.specs.Half.{half-unary, half-binary, half-all-true, half-bitmask, sign-bit}
 use Rattle.packed.proofs.Signs.{signs-below}
-use Rattle.packed.proofs.Table.{Divides}
+use Rattle.packed_choose.proofs.Table.{Divides}
 use Rattle.simd.specs.declared.V128.{V128}
 use Rattle.simd.specs.Number.{number}
 

@@ -5,18 +5,18 @@ ghost use mathlib.Core.Bool.{cond};
 ghost use Rattle.standard.specs.Integer.{iadd, isub, ineg, ieq, iavgr-u, ipopcnt, ishl, ishr-u};
 ghost use Rattle.standard.specs.Lanes.{unary, binary};
 ghost use Rattle.standard.specs.Vector.{any-true, all-true, bitmask};
-ghost use Rattle.packed.specs.Choose.{unary-at, binary-at};
+ghost use Rattle.packed_choose.specs.Choose.{unary-at, binary-at};
 ghost use Rattle.simd.specs.Number.{number};
-use packed::choose::*;
-use packed::reduce::*;
+use packed_choose::*;
+use packed_reduce::*;
 use simd::V128;
 
 fn both_unary(op: u8, count: u32, a: V128) -> V128
     ensures { λ r. ⌜ number r ≡ unary (unary-at op count .width) (unary-at op count .lane) (number a) ⌝ }
 {
     V128 {
-        lo: packed::choose::unary(op, count, a.lo),
-        hi: packed::choose::unary(op, count, a.hi),
+        lo: packed_choose::unary(op, count, a.lo),
+        hi: packed_choose::unary(op, count, a.hi),
     }
 }
 
@@ -24,8 +24,8 @@ fn both_binary(op: u8, a: V128, b: V128) -> V128
     ensures { λ r. ⌜ number r ≡ binary (binary-at op .width) (binary-at op .lane) (number a) (number b) ⌝ }
 {
     V128 {
-        lo: packed::choose::binary(op, a.lo, b.lo),
-        hi: packed::choose::binary(op, a.hi, b.hi),
+        lo: packed_choose::binary(op, a.lo, b.lo),
+        hi: packed_choose::binary(op, a.hi, b.hi),
     }
 }
 

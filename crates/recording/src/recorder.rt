@@ -7,7 +7,6 @@ ghost use Rattle.records.specs.Definition.{records-from, recorded};
 ghost use Rattle.recording.specs.Answer.{recorded-of};
 use crate::account::account;
 use operation::scalar::Scalar;
-use rules::lease;
 
 // How many bytes were written, or why none were.
 pub enum Recorded {
@@ -61,7 +60,7 @@ fn record_steps(list: &[u8], out: &mut [u8]) -> usize
 pub fn record(list: &[u8], out: &mut [u8]) -> Recorded
     ensures { λ r. ⌜ (recorded-of r, now (out .exit)) ≡ recorded (now (list .entry)) (now (out .entry)) ⌝ }
 {
-    let refused = lease::judge(list.len(), 0, 256);
+    let refused = limits::judge(list.len(), 0, 256);
     if refused != 0 {
         return Recorded::Refused(refused);
     }

@@ -2,9 +2,9 @@
 // that the first is among the second, but for dots that meet four −128, is `proofs/Theorems.antt`.
 ghost use mathlib.Core.Path.{_≡_};
 ghost use Rattle.standard.specs.Integer.{iadd};
-ghost use Rattle.wide_lane.specs.Widen.{pair-product};
+ghost use Rattle.width_lane.specs.Widen.{pair-product};
 use lane::arithmetic::mul16;
-use wide_lane::widen::extend8;
+use width_lane::extend8;
 
 // The products of the two bytes of each lane, both read as signed, added modulo 2^16.
 pub fn dot16(a: u16, b: u16) -> u16

@@ -2,8 +2,9 @@
 ghost use mathlib.Core.Path.{_≡_};
 ghost use mathlib.Core.List.{_++_, map};
 ghost use Prim.Native.Nat.{_≤_, _%_};
-ghost use lib.ListN.{getD};
+ghost use lib.ListN.{getD, take};
 ghost use lib.Seq.{paste};
+ghost use Rattle.standard.specs.Integer.{imin-u};
 ghost use Rattle.standard.specs.Refusal.{legal};
 
 // `t` with the sixteen bytes of `a` from place `at` on.
@@ -48,4 +49,39 @@ pub fn picked(t: [u8; 32], s: [u8; 16]) -> [u8; 16]
         out[i] = t[j];
     }
     out
+}
+
+// "An index of 16 to 255 gives 0" (document 01, "Lane rules"): held to 16, it names the first zero after the sixteen bytes.
+fn held(i: u8) -> u8
+    ensures { λ r. ⌜ r ≡ imin-u 8 i 16 ⌝ }
+{
+    if i < 16 { i } else { 16 }
+}
+
+// Over as many places as the compiler makes vectors of (docs/DECISIONS.md, "Idle places").
+fn all_held(s: [u8; 64]) -> [u8; 64]
+    ensures { λ r. ⌜ r ≡ map (λ i. imin-u 8 i 16) s ⌝ }
+{
+    let mut out = [0u8; 64];
+    for i in 0..64 {
+        out[i] = held(s[i]);
+    }
+    out
+}
+
+fn first(s: [u8; 64]) -> [u8; 16]
+    ensures { λ r. ⌜ r ≡ take 16 s ⌝ }
+{
+    let mut out = [0u8; 16];
+    for i in 0..16 {
+        out[i] = s[i];
+    }
+    out
+}
+
+// The bytes that the indices in the first sixteen places name, and 0 where an index names none.
+pub fn swizzled(t: [u8; 16], s: [u8; 64]) -> [u8; 16]
+    ensures { λ r. ⌜ r ≡ map (λ i. getD t i 0) (take 16 s) ⌝ }
+{
+    picked(beside(t, [0; 16]), first(all_held(s)))
 }

@@ -1,7 +1,4 @@
-// The rules of a step (specs/Definition.antt): its fields, what shape its operation has, whether it is refused, and the number that it leaves; and whether a
-// list is refused.
+// The rules of the calculator (specs/Definition.antt): what a step and a run give. Here stand the fields of a step and the shapes that its operation may have; what
+// is judged of a step stands in judging, what limits a run in limits, and the numbers beside registers in numbering.
 pub mod fields;
-pub mod judge;
-pub mod lease;
 pub mod shape;
-pub mod writers;

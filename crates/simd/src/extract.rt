@@ -16,8 +16,8 @@ use float_lane::F32;
 use float_lane::F64;
 use lane::reinterpret::signed32;
 use lane::reinterpret::signed64;
-use wide_lane::saturate::wide8;
-use wide_lane::saturate::wide16;
+use wide_lane::wide8;
+use wide_lane::wide16;
 
 impl V128 {
     pub fn i64x2_extract_lane(self, lane: u8) -> I64Answer

@@ -10,15 +10,13 @@ use crate::answer::VectorAnswer;
 use reorder::all_legal;
 use reorder::beside;
 use reorder::picked;
+use reorder::swizzled;
 
 impl V128 {
-    // "An index of 16 to 255 gives 0": held to 16, it names the first zero after the sixteen bytes.
     pub fn i8x16_swizzle(self, s: V128) -> V128
         ensures { λ r. ⌜ number r ≡ swizzle (number self) (number s) ⌝ }
     {
-        let t = self.lanes8();
-        let indices = s.i8x16_min_u(V128::splat8(16));
-        V128::join8(picked(beside(t, [0; 16]), indices.lanes8()))
+        V128::join8(swizzled(self.lanes8(), s.places8()))
     }
 
     // Refused with 5 where an index is above 31, whatever its place.

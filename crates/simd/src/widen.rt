@@ -5,18 +5,18 @@ ghost use mathlib.Core.List.{map};
 ghost use Rattle.standard.specs.Integer.{extend-u, extend-s, narrow-u, narrow-s};
 ghost use Rattle.standard.specs.Lanes.{joined, lanes, lowHalf, highHalf};
 ghost use Rattle.standard.specs.Vector.{extend, extmul, extadd-pairwise, dot, narrow, widen};
-ghost use Rattle.wide_lane.specs.Widen.{extends, narrows};
+ghost use Rattle.width_lane.specs.Widen.{extends, narrows, half-of};
 ghost use Rattle.simd.specs.Number.{number};
-ghost use Rattle.simd.specs.Select.{half-of};
 use crate::V128;
 use lanewise::DOT;
 use lanewise::EXTADD_S;
 use lanewise::EXTADD_U;
-use wide_lane::widen::extend8;
-use wide_lane::widen::extend16;
-use wide_lane::widen::extend32;
-use wide_lane::widen::narrow16;
-use wide_lane::widen::narrow32;
+use width_lane::extend8;
+use width_lane::extend16;
+use width_lane::extend32;
+use width_lane::half;
+use width_lane::narrow16;
+use width_lane::narrow32;
 
 impl V128 {
     fn widen8(bits: u64, signed: bool) -> V128
@@ -53,11 +53,7 @@ impl V128 {
     fn extend8(self, high: bool, signed: bool) -> V128
         ensures { λ r. ⌜ number r ≡ extend (half-of high) (extends signed) 8 (number self) ⌝ }
     {
-        if high {
-            V128::widen8(self.hi, signed)
-        } else {
-            V128::widen8(self.lo, signed)
-        }
+        V128::widen8(half(self.lo, self.hi, high), signed)
     }
 
     fn extmul8(self, rhs: V128, high: bool, signed: bool) -> V128
@@ -70,11 +66,7 @@ impl V128 {
     fn extend16(self, high: bool, signed: bool) -> V128
         ensures { λ r. ⌜ number r ≡ extend (half-of high) (extends signed) 16 (number self) ⌝ }
     {
-        if high {
-            V128::widen16(self.hi, signed)
-        } else {
-            V128::widen16(self.lo, signed)
-        }
+        V128::widen16(half(self.lo, self.hi, high), signed)
     }
 
     fn extmul16(self, rhs: V128, high: bool, signed: bool) -> V128
@@ -87,11 +79,7 @@ impl V128 {
     fn extend32(self, high: bool, signed: bool) -> V128
         ensures { λ r. ⌜ number r ≡ extend (half-of high) (extends signed) 32 (number self) ⌝ }
     {
-        if high {
-            V128::widen32(self.hi, signed)
-        } else {
-            V128::widen32(self.lo, signed)
-        }
+        V128::widen32(half(self.lo, self.hi, high), signed)
     }
 
     fn extmul32(self, rhs: V128, high: bool, signed: bool) -> V128

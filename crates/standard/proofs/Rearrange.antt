@@ -3,18 +3,17 @@
 use mathlib.Core.Path.{_≡_, refl, sym, ap, ap₂, _∙_, subst}
 use mathlib.Core.Bool.{Bool, true, false, cond}
 use mathlib.Core.List.{List, [], _∷_, _++_, map, append-nil}
-use Prim.Native.Nat.{ℕ, _+_, _%_, _<_, _≤_, suc-le-suc}
+use Prim.Native.Nat.{ℕ, zero, suc, _+_, _%_, _<_, _≤_, suc-le-suc}
 use native.Mathlib.Nat.{mod-eq-of-lt}
 use native.Mathlib.Omega.{arith}
 use borrow.Author.Tests.{le-leb, lt-leb, leb-true, ltb-true, ltb-false}
 use lib.Dec.{T, leb, ltb}
-use lib.ListN.{length, getD, drop, replicate, length-append, length-drop, drop-of-length-le, List·getD-append, List·getD-eq-default}
+use lib.ListN.{length, getD, take, drop, replicate, length-append, length-drop, drop-of-length-le, List·getD-append, List·getD-eq-default}
 use lib.Seq.{paste, take-all, take-at, getD-at}
-use Rattle.standard.specs.Lanes.{joined, lanes, binary, splat}
+use Rattle.standard.specs.Lanes.{joined, lanes}
 use Rattle.standard.specs.Integer.{imin-u}
 use Rattle.standard.specs.Refusal.{legal}
-use Rattle.standard.specs.Vector.{swizzle, shuffle}
-use Rattle.standard.proofs.Digits.{Below, lanes-joined}
+use Rattle.standard.specs.Vector.{shuffle}
 use Rattle.standard.proofs.Reduce.{next}
 
 module _ (xs : List ℕ) (i : ℕ) (h : i < length xs) where
@@ -46,19 +45,6 @@ beside-is zs a b lz la lb =
     (drop-of-length-le (a ++ drop 16 zs) {i = 32} (simp (length-append, length-drop) (omega arith)))
     ∙ append-nil (a ++ b)
 
--- the lanes of a vector, each held to at most 16
-held : (s : ℕ) → lanes 8 (binary 8 (imin-u 8) s (splat 8 16)) ≡ map (λ i. imin-u 8 i 16) (lanes 8 s)
-unfolding binary splat
-held s = lanes-joined 8 refl (map (λ i. imin-u 8 i 16) (lanes 8 s)) refl (below (lanes 8 s))
-  where
-    small : (i : ℕ) (t : Bool) → ltb i 16 ≡ t → cond t i 16 < 256
-    small i true e = omega (arith, ltb-true i 16 e)
-    small i false e = omega arith
-
-    below : (is : List ℕ) → Below 256 (map (λ i. imin-u 8 i 16) is)
-    below [] = tt
-    below (i ∷ is) = (small i (ltb i 16) refl, below is)
-
 -- an index of 16 or above names the zero after the sixteen bytes
 byte-or-zero : (xs : List ℕ) → length xs ≡ 16 → (i : ℕ) → getD (xs ++ replicate 16 0) (imin-u 8 i 16 % 32) 0 ≡ getD xs i 0
 byte-or-zero xs l i = pick (ltb i 16) refl
@@ -71,16 +57,15 @@ byte-or-zero xs l i = pick (ltb i 16) refl
         let h : 16 ≤ i = ltb-false i 16 e in
         getD-at xs 0 (replicate 15 0) 0 16 l ∙ sym (List·getD-eq-default xs 0 {n = i} (omega arith))
 
-pub swizzle-is : (x s : ℕ) {m : ℕ} {t xs is : List ℕ} → t ≡ xs ++ replicate 16 0 → xs ≡ lanes 8 x → is ≡ lanes 8 m → m ≡ binary 8 (imin-u 8) s (splat 8 16)
-    → joined 8 (map (λ i. getD t (i % 32) 0) is) ≡ swizzle x s
-unfolding swizzle
-swizzle-is x s et ex ei em =
-    ap₂ (λ (t is : List ℕ). joined 8 (map (λ i. getD t (i % 32) 0) is)) (et ∙ ap (λ (xs : List ℕ). xs ++ replicate 16 0) ex) (ei ∙ ap (lanes 8) em ∙ held s)
-    ∙ ap (joined 8) (each (lanes 8 s))
-  where
-    each : (is : List ℕ) → map (λ i. getD (lanes 8 x ++ replicate 16 0) (i % 32) 0) (map (λ i. imin-u 8 i 16) is) ≡ map (λ i. getD (lanes 8 x) i 0) is
-    each [] = refl
-    each (i ∷ is) = ap₂ _∷_ (byte-or-zero (lanes 8 x) refl i) (each is)
+pub take-map : (f : ℕ → ℕ) (n : ℕ) (xs : List ℕ) → take n (map f xs) ≡ map f (take n xs)
+take-map f zero xs = refl
+take-map f (suc n) [] = refl
+take-map f (suc n) (x ∷ xs) = ap (λ (r : List ℕ). f x ∷ r) (take-map f n xs)
+
+-- so sixteen indices, each held to at most 16, name the bytes that they name or 0
+pub held-indices : (xs : List ℕ) → length xs ≡ 16 → (is : List ℕ) → map (λ i. getD (xs ++ replicate 16 0) (i % 32) 0) (map (λ i. imin-u 8 i 16) is) ≡ map (λ i. getD xs i 0) is
+held-indices xs l [] = refl
+held-indices xs l (i ∷ is) = ap₂ _∷_ (byte-or-zero xs l i) (held-indices xs l is)
 
 pub shuffle-is : (is : List ℕ) (x y : ℕ) {t xs ys : List ℕ} → legal is ≡ true → t ≡ xs ++ ys → xs ≡ lanes 8 x → ys ≡ lanes 8 y
     → joined 8 (map (λ i. getD t (i % 32) 0) is) ≡ shuffle is x y

@@ -25,17 +25,14 @@ halves-of xs ys e =
     let m : length xs ≡ length (xs ++ ys) / 2 = omega (arith, length-append xs ys) in
     (take-at xs ys (length (xs ++ ys) / 2) m, drop-at xs ys (length (xs ++ ys) / 2) m)
 
-module _ (w n : ℕ) (half : w * n ≡ 64) (whole : n + n ≡ 128 / w) (count : 64 / w ≡ n) (sx : ℕ → ℕ → ℕ → ℕ) (a b : ℕ) (ha : a < 2 ^ 64) where
-  pub parts : (lowHalf (lanes w (a + 2 ^ 64 * b)) ≡ digits w n a) × (highHalf (lanes w (a + 2 ^ 64 * b)) ≡ digits w n b)
-  parts = rw (lanes-halves w n half whole a b ha) (halves-of (digits w n a) (digits w n b) (length-digits w n a ∙ sym (length-digits w n b)))
+pub parts : (w n : ℕ) → w * n ≡ 64 → n + n ≡ 128 / w → (a b : ℕ) → a < 2 ^ 64
+    → (lowHalf (lanes w (a + 2 ^ 64 * b)) ≡ digits w n a) × (highHalf (lanes w (a + 2 ^ 64 * b)) ≡ digits w n b)
+parts w n half whole a b ha = rw (lanes-halves w n half whole a b ha) (halves-of (digits w n a) (digits w n b) (length-digits w n a ∙ sym (length-digits w n b)))
 
-  pub extend-low : widen sx w a ≡ extend lowHalf sx w (a + 2 ^ 64 * b)
-  unfolding widen extend
-  extend-low = ap (λ (ds : List ℕ). joined (2 * w) (map (sx w (2 * w)) ds)) (ap (λ (k : ℕ). digits w k a) count ∙ sym (parts .0))
-
-  pub extend-high : widen sx w b ≡ extend highHalf sx w (a + 2 ^ 64 * b)
-  unfolding widen extend
-  extend-high = ap (λ (ds : List ℕ). joined (2 * w) (map (sx w (2 * w)) ds)) (ap (λ (k : ℕ). digits w k b) count ∙ sym (parts .1))
+-- what widening makes of the bits k is the extended half of a vector whose lanes k has
+pub extend-half : (w n : ℕ) → 64 / w ≡ n → (half : List ℕ → List ℕ) (sx : ℕ → ℕ → ℕ → ℕ) (x k : ℕ) → half (lanes w x) ≡ digits w n k → widen sx w k ≡ extend half sx w x
+unfolding widen extend
+extend-half w n count half sx x k e = ap (λ (ds : List ℕ). joined (2 * w) (map (sx w (2 * w)) ds)) (ap (λ (m : ℕ). digits w m k) count ∙ sym e)
 
 -- Extended lanes fit the double width.
 modulo-lt : (n : ℕ) (z : ℤ) → modulo n z < 2 ^ n

@@ -9,7 +9,7 @@ use Rattle.standard.specs.Instruction.{Kind, Instruction, i32}
 use Rattle.rules.specs.Definition.{Machine, destination, lane, constant, indices, hold}
 use Rattle.rules.specs.declared.shape.Shape.{Shape}
 use Rattle.state.specs.Count.{as-count}
-use Rattle.operation.specs.Family.{given-or, as-unary, as-binary, as-ternary, as-shift, as-test, as-splat, as-extract, as-replace}
+use Rattle.families.specs.Family.{given-or, as-unary, as-binary, as-ternary, as-shift, as-test, as-splat, as-extract, as-replace}
 
 -- the vector in the register that the low four bits of a byte name, and a state with a vector there, written by the step at a place
 abbrev pub named : List ℕ → List ℕ → ℕ → ℕ

@@ -4,7 +4,7 @@ use Prim.Native.Nat.{ℕ, _*_, _/_, _%_, _^_, _<_}
 use native.Mathlib.Nat.{le-trans, le-of-eq}
 use lib.Pow.{pow-pos}
 use borrow.Author.Needs.{needs}
-use Rattle.float_conversion.proofs.Chosen.{one-shifted, half-some}
+use Rattle.float_pattern.proofs.Chosen.{one-shifted, half-some}
 use Rattle.float_conversion.proofs.lift.Statement.{statement}
 use Rattle.float_conversion.proofs.lift.Tie as tie
 

@@ -5,7 +5,7 @@ use native.Mathlib.Nat.{le-trans, le-of-eq, le-of-suc-le-suc}
 use native.Mathlib.Omega.{arith}
 use mathlib.Core.Bool.{true, false}
 use lib.Pow.{pow-mono}
-use Rattle.float_conversion.proofs.Chosen.{lift-le, lifted}
+use Rattle.float_pattern.proofs.Chosen.{lift-le, lifted}
 use borrow.Author.Needs.{needs}
 use Rattle.float_conversion.proofs.nearest_shift.Statement.{statement}
 use Rattle.float_conversion.proofs.nearest_shift.Tie as tie

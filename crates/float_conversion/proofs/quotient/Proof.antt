@@ -7,7 +7,7 @@ use native.Mathlib.Omega.{arith}
 use lib.Dec.{lit≤}
 use lib.Pow.{pow-pos}
 use lib.Ieee.{binary64, round, toBits}
-use Rattle.float_conversion.proofs.Numbers.{z-lt, wide-fits, wide, zero-pattern}
+use Rattle.float_pattern.proofs.Numbers.{z-lt, wide-fits, wide, zero-pattern}
 use borrow.Author.Needs.{needs}
 use Rattle.float_conversion.proofs.quotient.Statement.{statement}
 use Rattle.float_conversion.proofs.quotient.Tie as tie

@@ -7,7 +7,7 @@ use borrow.Author.Needs.{needs}
 use borrow.Author.Tests.{not-true, not-false, le-leb, lt-leb}
 use Rattle.layout.specs.Definition.{whole-blocks}
 use Rattle.layout.proofs.Files.{whole}
-use Rattle.mending.specs.Definition.{Mending, mending}
+use Rattle.mending_rules.specs.Definition.{Mending, mending}
 use Rattle.mending.proofs.mend.Statement.{statement}
 use Rattle.mending.proofs.mend.Tie as tie
 

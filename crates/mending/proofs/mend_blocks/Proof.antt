@@ -11,8 +11,8 @@ use borrow.Rule.Slice.PartMut.{same-len-mid}
 use borrow.Author.Tests.{lt-ltb, le-ltb}
 use borrow.Author.Needs.{needs}
 use Rattle.layout.specs.Definition.{blocks, block}
-use Rattle.mending.specs.Definition.{written, blocks-from, bits-from}
-use Rattle.mending.proofs.Files.{mends, ends, block-put, bit-put, one-more, no-more, none-left, ended}
+use Rattle.mending_rules.specs.Definition.{written, blocks-from, bits-from}
+use Rattle.mending_rules.proofs.Files.{mends, ends, block-put, bit-put, one-more, no-more, none-left, ended}
 use Rattle.mending.proofs.mend_blocks.Statement.{statement}
 use Rattle.mending.proofs.mend_blocks.Tie as tie
 

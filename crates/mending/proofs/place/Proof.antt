@@ -2,7 +2,7 @@
 use denote.Ref.{now}
 use mathlib.Core.Path.{sym, _∙_}
 use borrow.Author.Needs.{needs}
-use Rattle.mending.proofs.Blocks.{Block, stays, turns, fails}
+use Rattle.mending_rules.proofs.Blocks.{Block, stays, turns, fails}
 use Rattle.mending.proofs.place.Statement.{statement}
 use Rattle.mending.proofs.place.Tie as tie
 

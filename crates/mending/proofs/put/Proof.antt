@@ -10,7 +10,7 @@ use lib.Seq.{take-all}
 use borrow.Author.Tests.{lt-ltb, le-ltb}
 use borrow.Author.Needs.{needs}
 use Rattle.remainder.specs.Remainder.{_⊕_}
-use Rattle.mending.specs.Definition.{flipped}
+use Rattle.mending_rules.specs.Definition.{flipped}
 use Rattle.mending.proofs.put.Statement.{statement}
 use Rattle.mending.proofs.put.Tie as tie
 

@@ -6,7 +6,7 @@ use native.Mathlib.Omega.{arith}
 use borrow.Author.Needs.{needs}
 use Rattle.remainder.specs.Remainder.{_⊕_, shift}
 use Rattle.remainder.specs.Powers.{times}
-use Rattle.mending.specs.Place.{Place}
+use Rattle.mending_rules.specs.Place.{Place}
 use Rattle.remainder.proofs.Shift.{times-add}
 use Rattle.mending.proofs.walk.Statement.{statement}
 use Rattle.mending.proofs.walk.Tie as tie

@@ -1,6 +1,6 @@
 -- `packed_vector::both_binary` meets its contract. Assumes nothing.
 use borrow.Author.Needs.{needs}
-use Rattle.packed.proofs.Table.{binary-divides}
+use Rattle.packed_choose.proofs.Table.{binary-divides}
 use Rattle.packed_vector.proofs.Both.{both-binary}
 use Rattle.packed_vector.proofs.both_binary.Statement.{statement}
 use Rattle.packed_vector.proofs.both_binary.Tie as tie

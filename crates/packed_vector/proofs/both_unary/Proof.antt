@@ -1,6 +1,6 @@
 -- `packed_vector::both_unary` meets its contract. Assumes nothing.
 use borrow.Author.Needs.{needs}
-use Rattle.packed.proofs.Table.{unary-divides}
+use Rattle.packed_choose.proofs.Table.{unary-divides}
 use Rattle.packed_vector.proofs.Both.{both-unary}
 use Rattle.packed_vector.proofs.both_unary.Statement.{statement}
 use Rattle.packed_vector.proofs.both_unary.Tie as tie

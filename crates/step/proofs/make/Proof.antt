@@ -6,7 +6,7 @@ use Rattle.standard.specs.Lanes.{joined}
 use Rattle.standard.specs.Vector.{shuffle}
 use Rattle.standard.specs.Refusal.{at-indices}
 use Rattle.simd.specs.Number.{number}
-use Rattle.operation.specs.Family.{given-or}
+use Rattle.families.specs.Family.{given-or}
 use borrow.Author.Needs.{needs}
 use Rattle.rules.proofs.Shapes.{nothing}
 use Rattle.step.proofs.make.Statement.{statement}

@@ -7,9 +7,9 @@ use native.Mathlib.Omega.{arith}
 use lib.Dec.{leb, lit≤, lit<}
 use lib.Ieee.{binary32, binary64, toBits}
 use lib.Ieee.Nearest.{closest}
-use Rattle.float_conversion.proofs.Rounding.{sign-fits}
-use Rattle.float_conversion.proofs.Fields.{field, digits, digits-are}
-use Rattle.float_conversion.proofs.Formats.{of-nan, far-below, below, inside, above, kept-le}
+use Rattle.float_pattern.proofs.Rounding.{sign-fits}
+use Rattle.float_pattern.proofs.Fields.{field, digits, digits-are}
+use Rattle.float_pattern.proofs.Formats.{of-nan, far-below, below, inside, above, kept-le}
 use borrow.Author.Needs.{needs}
 use Rattle.float_conversion.proofs.cast.demote.Statement.{statement}
 use Rattle.float_conversion.proofs.cast.demote.Tie as tie

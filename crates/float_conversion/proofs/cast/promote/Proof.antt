@@ -6,8 +6,8 @@ use native.Mathlib.Nat.{le-trans, le-of-eq, le-refl, lt-of-le-of-lt}
 use native.Mathlib.Omega.{arith}
 use lib.Dec.{leb}
 use lib.Ieee.{binary32, binary64, toBits}
-use Rattle.float_conversion.proofs.Rounding.{magnitude-le, sign-fits}
-use Rattle.float_conversion.proofs.Formats.{of-nan, no-field, some-field, infinity-kept}
+use Rattle.float_pattern.proofs.Rounding.{magnitude-le, sign-fits}
+use Rattle.float_pattern.proofs.Formats.{of-nan, no-field, some-field, infinity-kept}
 use borrow.Author.Needs.{needs}
 use Rattle.float_conversion.proofs.cast.promote.Statement.{statement}
 use Rattle.float_conversion.proofs.cast.promote.Tie as tie

@@ -1,7 +1,7 @@
 -- `float_conversion::integral::ffloor32` meets its contract. Assumes nothing.
 use mathlib.Core.Path.{_∙_}
 use lib.Ieee.{binary32}
-use Rattle.float_conversion.proofs.ToWhole.{downward-is}
+use Rattle.float_pattern.proofs.ToWhole.{downward-is}
 use borrow.Author.Needs.{needs}
 use Rattle.float_conversion.proofs.integral.ffloor32.Statement.{statement}
 use Rattle.float_conversion.proofs.integral.ffloor32.Tie as tie

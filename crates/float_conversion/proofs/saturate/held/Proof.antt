@@ -2,7 +2,7 @@
 use mathlib.Core.Path.{_≡_, _∙_}
 use Prim.Native.Nat.{ℕ, _+_, _-_, _≤_, _<_, _^_, min}
 use native.Mathlib.Omega.{arith}
-use Rattle.float_conversion.proofs.Saturation.{held-low, held-high, negated-lane}
+use Rattle.float_pattern.proofs.Saturation.{held-low, held-high, negated-lane}
 use borrow.Author.Needs.{needs}
 use Rattle.float_conversion.proofs.saturate.held.Statement.{statement}
 use Rattle.float_conversion.proofs.saturate.held.Tie as tie

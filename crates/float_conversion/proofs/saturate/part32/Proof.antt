@@ -7,8 +7,8 @@ use lib.Dec.{lit≤}
 use lib.Ieee.{binary32, ofBits}
 use lib.Ieee.Casts.{toUnsigned-lt}
 use Rattle.standard.specs.Convert.{trunc-sat-u}
-use Rattle.float_conversion.proofs.Fields.{field, digits-are}
-use Rattle.float_conversion.proofs.Saturation.{part-of-nan, part-small, part-large, part-middle}
+use Rattle.float_pattern.proofs.Fields.{field, digits-are}
+use Rattle.float_pattern.proofs.Saturation.{part-of-nan, part-small, part-large, part-middle}
 use borrow.Author.Needs.{needs}
 use Rattle.float_conversion.proofs.saturate.part32.Statement.{statement}
 use Rattle.float_conversion.proofs.saturate.part32.Tie as tie

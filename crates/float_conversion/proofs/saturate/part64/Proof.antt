@@ -7,8 +7,8 @@ use lib.Dec.{lit≤}
 use lib.Ieee.{binary64, ofBits}
 use lib.Ieee.Casts.{toUnsigned-lt}
 use Rattle.standard.specs.Convert.{trunc-sat-u}
-use Rattle.float_conversion.proofs.Fields.{field, digits, digits-are}
-use Rattle.float_conversion.proofs.Saturation.{part-of-nan, part-small, part-large, part-middle}
+use Rattle.float_pattern.proofs.Fields.{field, digits, digits-are}
+use Rattle.float_pattern.proofs.Saturation.{part-of-nan, part-small, part-large, part-middle}
 use borrow.Author.Needs.{needs}
 use Rattle.float_conversion.proofs.saturate.part64.Statement.{statement}
 use Rattle.float_conversion.proofs.saturate.part64.Tie as tie

@@ -6,7 +6,7 @@ use lib.IntN.{pos, negℤ}
 use lib.Dec.{leb}
 use lib.Ieee.{binary32, top}
 use Rattle.standard.specs.Integer.{modulo}
-use Rattle.float_conversion.proofs.Saturation.{signed-lane}
+use Rattle.float_pattern.proofs.Saturation.{signed-lane}
 use borrow.Author.Needs.{needs}
 use Rattle.float_conversion.proofs.saturate.trunc_sat_s32.Statement.{statement}
 use Rattle.float_conversion.proofs.saturate.trunc_sat_s32.Tie as tie

@@ -4,7 +4,7 @@ use Prim.Native.Nat.{_+_}
 use native.Mathlib.Nat.{le-of-eq, lt-of-le-of-lt}
 use lib.Ieee.{binary64}
 use Rattle.standard.specs.Convert.{convert-u}
-use Rattle.float_conversion.proofs.Numbers.{signed-lane, lane-fits}
+use Rattle.float_pattern.proofs.Numbers.{signed-lane, lane-fits}
 use borrow.Author.Needs.{needs}
 use Rattle.float_conversion.proofs.whole.convert_s64.Statement.{statement}
 use Rattle.float_conversion.proofs.whole.convert_s64.Tie as tie

@@ -7,7 +7,7 @@ use lib.Dec.{lit≤, lit<}
 use lib.Count.{leadingZeros}
 use lib.Ieee.{binary32, ofInt}
 use Rattle.standard.specs.Convert.{convert-u}
-use Rattle.float_conversion.proofs.Numbers.{z-lt, kept-small, narrow-fits, narrow, zero-pattern}
+use Rattle.float_pattern.proofs.Numbers.{z-lt, kept-small, narrow-fits, narrow, zero-pattern}
 use borrow.Author.Needs.{needs}
 use Rattle.float_conversion.proofs.whole.convert_u32.Statement.{statement}
 use Rattle.float_conversion.proofs.whole.convert_u32.Tie as tie

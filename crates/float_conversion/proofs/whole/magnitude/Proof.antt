@@ -3,7 +3,7 @@ use mathlib.Core.Path.{_≡_, sym, ap, _∙_}
 use Prim.Native.Nat.{ℕ, suc, _+_, _-_, _<_}
 use native.Mathlib.Omega.{arith}
 use lib.IntN.{natAbs}
-use Rattle.float_conversion.proofs.Numbers.{reads-low, reads-high}
+use Rattle.float_pattern.proofs.Numbers.{reads-low, reads-high}
 use borrow.Author.Needs.{needs}
 use Rattle.float_conversion.proofs.whole.magnitude.Statement.{statement}
 use Rattle.float_conversion.proofs.whole.magnitude.Tie as tie

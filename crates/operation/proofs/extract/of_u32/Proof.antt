@@ -1,5 +1,5 @@
 -- `operation::extract::of_u32` meets its contract: the value, or i32 0. Assumes nothing.
-use Rattle.operation.proofs.Calls.{nothing}
+use Rattle.families.proofs.Calls.{nothing}
 use borrow.Author.Needs.{needs}
 use Rattle.operation.proofs.extract.of_u32.Statement.{statement}
 use Rattle.operation.proofs.extract.of_u32.Tie as tie

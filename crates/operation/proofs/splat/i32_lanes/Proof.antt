@@ -4,9 +4,9 @@ use mir.Syntax.{w8, w16}
 use mir.Facts.{toZ-ofZ}
 use Rattle.standard.specs.Instruction.{i32, table, instruction}
 use Rattle.lane.proofs.Magnitude.{kept}
-use Rattle.operation.specs.Family.{families}
-use Rattle.operation.proofs.Calls.{nothing}
-use Rattle.operation.proofs.Others.{any}
+use Rattle.families.specs.Family.{families}
+use Rattle.families.proofs.Calls.{nothing}
+use Rattle.families.proofs.Others.{any}
 use Rattle.operation.proofs.splat.i32_lanes.Statement.{statement}
 use Rattle.operation.proofs.splat.i32_lanes.Tie as tie
 

@@ -1,8 +1,8 @@
 -- `operation::unary::i16x8_and_i32x4` meets its contract: each arm by its method's promise, at the number that led there. Assumes nothing.
 use Rattle.standard.specs.Instruction.{table, instruction}
-use Rattle.operation.specs.Family.{families}
-use Rattle.operation.proofs.Calls.{nothing}
-use Rattle.operation.proofs.Others.{between}
+use Rattle.families.specs.Family.{families}
+use Rattle.families.proofs.Calls.{nothing}
+use Rattle.families.proofs.Others.{between}
 use Rattle.operation.proofs.unary.i16x8_and_i32x4.Statement.{statement}
 use Rattle.operation.proofs.unary.i16x8_and_i32x4.Tie as tie
 

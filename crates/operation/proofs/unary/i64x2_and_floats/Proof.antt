@@ -1,9 +1,9 @@
 -- `operation::unary::i64x2_and_floats` meets its contract: each arm by its method's promise, at the number that led there. Assumes nothing.
 use mathlib.Core.Path.{refl}
 use Rattle.standard.specs.Instruction.{table, instruction}
-use Rattle.operation.specs.Family.{families}
-use Rattle.operation.proofs.Calls.{nothing}
-use Rattle.operation.proofs.Others.{from}
+use Rattle.families.specs.Family.{families}
+use Rattle.families.proofs.Calls.{nothing}
+use Rattle.families.proofs.Others.{from}
 use Rattle.operation.proofs.unary.i64x2_and_floats.Statement.{statement}
 use Rattle.operation.proofs.unary.i64x2_and_floats.Tie as tie
 

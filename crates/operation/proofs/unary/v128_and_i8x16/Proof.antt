@@ -1,8 +1,8 @@
 -- `operation::unary::v128_and_i8x16` meets its contract: each arm by its method's promise, at the number that led there. Assumes nothing.
 use Rattle.standard.specs.Instruction.{table, instruction}
-use Rattle.operation.specs.Family.{families}
-use Rattle.operation.proofs.Calls.{nothing}
-use Rattle.operation.proofs.Others.{below}
+use Rattle.families.specs.Family.{families}
+use Rattle.families.proofs.Calls.{nothing}
+use Rattle.families.proofs.Others.{below}
 use Rattle.operation.proofs.unary.v128_and_i8x16.Statement.{statement}
 use Rattle.operation.proofs.unary.v128_and_i8x16.Tie as tie
 

@@ -1,21 +1,18 @@
 -- `simd::V128::extend16` meets its contract. Assumes nothing.
 use borrow.Author.Needs.{needs}
 use mathlib.Core.Path.{refl, _∙_}
-use Rattle.standard.proofs.Widths.{extend-low, extend-high}
+use Rattle.standard.proofs.Widths.{extend-half}
 use Rattle.simd.proofs.V128.extend16.Statement.{statement}
 use Rattle.simd.proofs.V128.extend16.Tie as tie
+
+half-requires : tie.Need-half-requires
+half-requires c κs = search needs
 
 widen16-requires : tie.Need-widen16-requires
 widen16-requires c κs = search needs
 
-widen16-requires-2 : tie.Need-widen16-requires-2
-widen16-requires-2 c κs = search needs
-
 returns : tie.Need-returns
-returns c = rw (c .before .if1 .taken) (c .widen16 .ensures ∙ extend-high 16 4 refl refl refl _ _ _ (search needs))
-
-returns-2 : tie.Need-returns-2
-returns-2 c = rw (c .before .if1 .left) (c .widen162 .ensures ∙ extend-low 16 4 refl refl refl _ _ _ (search needs))
+returns c = c .widen16 .ensures ∙ extend-half 16 4 refl _ _ _ _ (c .before .half .ensures 16 4 refl refl)
 
 pub extend16-spec : {M : Type 1} → statement M
-extend16-spec = tie.close (tie.spec widen16-requires widen16-requires-2 returns returns-2)
+extend16-spec = tie.close (tie.spec half-requires widen16-requires returns)

@@ -3,7 +3,7 @@ use mathlib.Core.Path.{_≡_}
 use mir.Syntax.{w32, w64}
 use mir.Val.{toZ, ofZ}
 use borrow.Author.Needs.{needs}
-use Rattle.operation.proofs.Calls.{nothing}
+use Rattle.families.proofs.Calls.{nothing}
 use Rattle.operation.proofs.scalar.Scalar.bits.Statement.{statement}
 use Rattle.operation.proofs.scalar.Scalar.bits.Tie as tie
 

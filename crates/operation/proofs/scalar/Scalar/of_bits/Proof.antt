@@ -5,7 +5,7 @@ use mir.Val.{Fits}
 use Rattle.standard.specs.Integer.{signed, modulo}
 use Rattle.lane.proofs.Magnitude.{kept}
 use Rattle.lane.proofs.Signed.{modulo-signed}
-use Rattle.operation.proofs.Calls.{nothing}
+use Rattle.families.proofs.Calls.{nothing}
 use borrow.Author.Needs.{needs}
 use Rattle.operation.proofs.scalar.Scalar.of_bits.Statement.{statement}
 use Rattle.operation.proofs.scalar.Scalar.of_bits.Tie as tie

@@ -1,0 +1,9 @@
+pub mod Apart
+pub mod Bits
+pub mod Blocks
+pub mod Files
+pub mod Flip
+pub mod Parity
+pub mod Recordings
+pub mod Spread
+pub mod Theorems

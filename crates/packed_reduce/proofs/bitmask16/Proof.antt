@@ -1,0 +1,18 @@
+-- `packed_reduce::bitmask16` meets its contract: the sign bits of 4 lanes of 16 bits, from the low end. Assumes nothing.
+use borrow.Author.Needs.{needs}
+use lib.Dec.{lit<}
+use Rattle.packed.specs.Half.{half-bitmask}
+use Rattle.packed.proofs.Signs.{gathered-is}
+use Rattle.packed_reduce.proofs.bitmask16.Statement.{statement}
+use Rattle.packed_reduce.proofs.bitmask16.Tie as tie
+
+returns : tie.Need-returns
+unfolding half-bitmask
+returns c = gathered-is 15 3 (c .args .a) (lit< tt)
+
+pub bitmask16-spec : {M : Type 1} → statement M
+bitmask16-spec =
+    tie.close
+    (tie.spec
+    (λ c. search needs) (λ c. search needs) (λ c. search needs) (λ c. search needs)
+    returns)
