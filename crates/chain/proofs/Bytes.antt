@@ -2,10 +2,12 @@
 -- Assumes nothing.
 use mathlib.Core.Path.{_≡_, refl, sym, ap, _∙_, subst}
 use mathlib.Core.List.{List, [], _∷_, _++_, map}
-use Prim.Native.Nat.{ℕ, _*_, _^_, _<_}
+use Prim.Native.Nat.{ℕ, _+_, _*_, _^_, _<_, _≤_}
 use native.Mathlib.Nat.{suc-inj, suc-ne-zero}
+use native.Mathlib.Numerals.{add-one}
 use native.Mathlib.Omega.{arith}
-use lib.ListN.{length, getD, length-map}
+use lib.ListN.{length, getD, take, length-map}
+use lib.Seq.{take-suc, take-all}
 use Rattle.standard.specs.Lanes.{lanes}
 use Rattle.standard.specs.Vector.{shuffle}
 use Rattle.standard.proofs.Digits.{Below, digits-below, joined-lt, lanes-joined}
@@ -16,6 +18,17 @@ use Rattle.chain.proofs.Lists.{partner-of, picked-below}
 abbrev pub Whole : List (List ℕ) → Type 0
 Whole [] = Unit {0}
 Whole (link ∷ links) = (length link ≡ 17) × Whole links
+
+-- those passed, one more of them, and all of them
+both-whole : (xs ys : List (List ℕ)) → Whole xs → Whole ys → Whole (xs ++ ys)
+both-whole [] ys wx wy = wy
+both-whole (x ∷ xs) ys wx wy = (wx .0, both-whole xs ys (wx .1) wy)
+
+pub whole-more : (links : List (List ℕ)) (k : ℕ) (d : List ℕ) → k < length links → length (getD links k d) ≡ 17 → Whole (take k links) → Whole (take (k + 1) links)
+whole-more links k d h l w = rw (add-one, take-suc links k d) (both-whole (take k links) (getD links k d ∷ []) w (l, tt))
+
+pub whole-all : (links : List (List ℕ)) (k : ℕ) → length links ≤ k → Whole (take k links) → Whole links
+whole-all links k over w = rw (take-all k links over) at w
 
 abbrev pub shuffled : List ℕ → List ℕ → List ℕ → List ℕ
 shuffled is x y = map (λ i. getD (x ++ y) i 0) is

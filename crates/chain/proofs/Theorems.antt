@@ -3,6 +3,7 @@
 --     one-shuffle      one shuffle by the folded list is the chain, for all a and b
 --     differ           two different lists of sixteen legal indices differ on the bytes 0 to 15 and 16 to 31
 --     only             so the folded list is the only one;  legal-list: it is sixteen legal indices;  no-link: of no link it is 0 to 15
+--     folds-into       all of it at once, which `fold` promises of what it writes: there the type of a link is what makes it whole
 -- Assumes nothing.
 use mathlib.Core.Path.{_≡_, refl, sym, ap, ap₂, _∙_, subst}
 use mathlib.Core.Bool.{Bool, true, false, cond}
@@ -18,7 +19,7 @@ use Rattle.standard.specs.Vector.{shuffle}
 use Rattle.standard.specs.Refusal.{given, refused, legal, at-indices}
 use Rattle.standard.proofs.Digits.{Below, length-digits, lanes-determine}
 use Rattle.standard.proofs.Halves.{map-append}
-use Rattle.chain.specs.Definition.{indices, partner, chained, all-legal, refusal, answered, applied, counted, low-places, high-places, folded}
+use Rattle.chain.specs.Definition.{indices, partner, chained, all-legal, refusal, answered, applied, counted, low-places, high-places, folded, Does, OneShuffle}
 use Rattle.chain.proofs.Judging.{both, unrefused}
 use Rattle.chain.proofs.Lists.{partner-of, partner-has, picked-below, counted-below}
 use Rattle.chain.proofs.Bytes.{Whole, shuffled, chained-bytes, length-indices, length-shuffled, shuffle-lt, lanes-shuffle, lanes-chained, folded-bytes, chained-lt}
@@ -109,13 +110,19 @@ only links w e is l legal-is every =
     differ is (folded links) l (mine .0) legal-is (mine .1)
     (every low-places high-places (lit< tt) (lit< tt) ∙ sym (one-shuffle links w e low-places high-places (lit< tt) (lit< tt)))
 
+-- all of it, of the list that a chain which is not refused folds into
+pub folds-into : (links : List (List ℕ)) → Whole links → refusal links ≡ 0 → OneShuffle links (folded links)
+folds-into links w unrefuse =
+    let e = unrefused links unrefuse in
+    record { legal-indices = legal-list links w .1; does = one-shuffle links w e; only = only links w e }
+
 pub no-link : folded [] ≡ counted 16 0
 unfolding folded chained
 no-link = refl
 
--- a chain that is not refused, applied, is the shuffle by the folded list, which is not refused
-pub applied-once : (links : List (List ℕ)) → Whole links → refusal links ≡ 0 → (a b : ℕ) → a < 2 ^ 128 → b < 2 ^ 128 → applied links a b ≡ at-indices (folded links) (shuffle (folded links) a b)
-applied-once links w unrefuse a b ha hb =
+-- a chain that is not refused, applied, is the shuffle by that list, which is not refused
+pub applied-once : (links : List (List ℕ)) (is : List ℕ) → OneShuffle links is → refusal links ≡ 0 → (a b : ℕ) → a < 2 ^ 128 → b < 2 ^ 128 → applied links a b ≡ at-indices is (shuffle is a b)
+applied-once links is one unrefuse a b ha hb =
     ap (λ (n : ℕ). answered n (chained links a b a)) unrefuse
-    ∙ ap given (sym (one-shuffle links w (unrefused links unrefuse) a b ha hb))
-    ∙ sym (ap (λ (t : Bool). cond t (given (shuffle (folded links) a b)) (refused 5)) (legal-list links w .1))
+    ∙ ap given (sym (one .does a b ha hb))
+    ∙ sym (ap (λ (t : Bool). cond t (given (shuffle is a b)) (refused 5)) (one .legal-indices))

@@ -1,6 +1,7 @@
 -- Chains of shuffles (document 02, order 13): "Start from two vectors a and b, with a as the current one. Each link shuffles the current vector (the first) with a,
 -- b or itself, by its own sixteen legal indices." A link is its seventeen bytes: its partner, then its indices. A vector is its number.
-use Prim.Native.Nat.{ℕ, zero, suc}
+use Prim.Native.Nat.{ℕ, zero, suc, _^_, _<_}
+use mathlib.Core.Path.{_≡_}
 use mathlib.Core.Bool.{Bool, true, false, cond}
 use mathlib.Core.List.{List, [], _∷_}
 use lib.Dec.{ltb}
@@ -53,9 +54,18 @@ abbrev pub high-places : ℕ
 high-places = joined 8 (counted 16 16)
 
 -- "one list of sixteen indices gives the same result by one shuffle of a and b": the bytes that the chain makes of these two. That it does, for all a and b, and that no
--- other does, is proved (proofs/Theorems).
+-- other does, is proved (proofs/Theorems) and promised of what `fold` writes.
 unfoldable pub folded : List (List ℕ) → List ℕ
 folded links = lanes 8 (chained links low-places high-places low-places)
+
+-- What order 13 asks of a list: one shuffle of a and b by it is the chain "for all a and b", and no other list of sixteen legal indices does that.
+abbrev pub Does : List (List ℕ) → List ℕ → Type 0
+Does links is = (a b : ℕ) → a < 2 ^ 128 → b < 2 ^ 128 → shuffle is a b ≡ chained links a b a
+
+pub record OneShuffle (links : List (List ℕ)) (is : List ℕ) : Type 0 where
+  pub legal-indices : legal is ≡ true
+  pub does : Does links is
+  pub only : (js : List ℕ) → length js ≡ 16 → legal js ≡ true → Does links js → js ≡ is
 
 -- What stands where the indices go, by the refusal's number: those that stood there where there is one.
 abbrev pub left : ℕ → List ℕ → List ℕ → List ℕ

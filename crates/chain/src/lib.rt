@@ -3,8 +3,8 @@
 ghost use mathlib.Core.Path.{_≡_};
 ghost use mathlib.Core.List.{_++_, map};
 ghost use Prim.Native.Nat.{_%_};
-ghost use lib.ListN.{getD};
-ghost use Rattle.chain.specs.Definition.{indices, partner, refusal, counted, folded, left};
+ghost use lib.ListN.{length, getD};
+ghost use Rattle.chain.specs.Definition.{indices, partner, refusal, counted, folded, left, OneShuffle};
 use reorder::all_legal;
 use reorder::beside;
 use reorder::picked;
@@ -84,9 +84,10 @@ fn partner_of(n: u8, current: [u8; 16]) -> [u8; 16]
     }
 }
 
-// Where the bytes of the next current vector stand in a and b, by where those of this one do.
+// Where the bytes of the next current vector stand in a and b, by where those of this one do. A link has its seventeen bytes by its type, which `fold` needs to know.
 fn linked(current: [u8; 16], link: [u8; 17]) -> [u8; 16]
     ensures { λ r. ⌜ r ≡ map (λ i. getD (current ++ partner (getD link 0 0) (counted 16 0) (counted 16 16) current) (i % 32) 0) (indices link) ⌝ }
+    ensures { λ r. ⌜ length link ≡ 17 ⌝ }
 {
     picked(
         beside(current, partner_of(link[0], current)),
@@ -94,10 +95,11 @@ fn linked(current: [u8; 16], link: [u8; 17]) -> [u8; 16]
     )
 }
 
-// 0, and the folded indices are written to `out`; or the number of the refusal, and nothing is written.
+// 0, and the folded indices are written to `out`, by which one shuffle is the chain; or the number of the refusal, and nothing is written.
 pub fn fold(links: &[[u8; 17]], out: &mut [u8; 16]) -> u8
     ensures { λ r. ⌜ r ≡ refusal (now (links .entry)) ⌝ }
     ensures { λ r. ⌜ now (out .exit) ≡ left r (folded (now (links .entry))) (now (out .entry)) ⌝ }
+    ensures { λ r. ⌜ (r ≡ 0 → OneShuffle (now (links .entry)) (now (out .exit))) ⌝ }
 {
     let refused = judge(links);
     if refused != 0 {

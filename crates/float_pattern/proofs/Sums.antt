@@ -1,21 +1,20 @@
--- Sums of whole numbers are exact, over both formats (document 02, order 4). Of magnitudes up to `hid`, 2^23 at f32 and 2^52 at f64, the sum of two
--- patterns is the pattern of the sum (`exact`, first half), and no digit of it is lost, since it is read back (second half). Assumes nothing.
+-- Sums of whole numbers are exact, over both formats (document 02, order 4). Of magnitudes up to `hid`, 2^23 at f32 and 2^52 at f64, the pattern of x, the pattern of y and the pattern of their sum are
+-- patterns of exactly x, y and x + y (`exact`; `exact-f32` names f32 and 2^23 as the order does). Up to twice that the sum of two patterns is the pattern of the sum (`rounded-once`). Assumes nothing.
 use mathlib.Core.Path.{_≡_, refl, sym, ap, _∙_}
 use mathlib.Core.Bool.{Bool, true, false, not, cond, _&&_}
 use Prim.Native.Nat.{ℕ, suc, _+_, _-_, _*_, _^_, _≤_, _<_}
-use native.Mathlib.Nat.{le-trans, le-of-eq, lt-of-le-of-lt, zero-lt-suc, mul-one, mul-comm, mul-assoc, mul-right-comm, add-mul, mul-sub, mul-pos, mul-lt-mul-of-pos-right, mul-le-mul-right}
+use native.Mathlib.Nat.{le-trans, le-of-eq, zero-lt-suc, mul-one, mul-comm, mul-assoc, mul-right-comm, add-mul, mul-sub, mul-pos, mul-lt-mul-of-pos-right, mul-le-mul-right}
 use native.Mathlib.Omega.{arith}
 use lib.IntN.{ℤ, pos, negsuc, natAbs, subℕ, _+ℤ_}
-use lib.Dec.{T, ltb, lt→ltb, ltb→lt, nltb→le, le→leb, lit<, lit≤}
+use lib.Dec.{T, ltb, lt→ltb, ltb→lt, nltb→le}
 use lib.Arith.{le→nltb}
-use lib.Pow.{pow-lt}
-use lib.Ieee.{Float, nan, inf, fin, Format, binary32, binary64, prec, hid, up, down, round, add, sum, ofInt, toBits, toSigned, inFloat}
+use lib.Ieee.{Float, nan, inf, fin, Format, binary32, binary64, prec, hid, up, down, round, add, sum, ofInt, ofBits, toBits}
 use lib.Ieee.Fits.{down-pos, ofInt-fits}
 use lib.Ieee.Bits.{ofBits-toBits, is-true, is-false}
 use lib.Ieee.Exact.{HasValue}
 use lib.Ieee.Scale.{round-same}
-use lib.Ieee.Back.{round-whole, positive-back, negative-back}
-use Rattle.standard.specs.Float.{width, whole, read-back, fadd}
+use lib.Ieee.Back.{round-whole}
+use Rattle.standard.specs.Float.{whole, fadd}
 
 -- ---- two fractions with one denominator: their sum is that of the numerators, whatever the denominator
 
@@ -52,7 +51,7 @@ add-values f (fin u m e) (fin v n d) s t a b h k =
 
 -- ---- whole numbers: their sum is rounded once, from the whole number that it is
 
-abbrev negative : ℤ → Bool
+abbrev pub negative : ℤ → Bool
 negative (pos n) = false
 negative (negsuc n) = true
 
@@ -106,23 +105,22 @@ rounded-once f x y h k =
     rw (ofBits-toBits f (ofInt f x) (ofInt-fits f x), ofBits-toBits f (ofInt f y) (ofInt-fits f y))
     (ap (toBits f) (add-values f (ofInt f x) (ofInt f y) (negative x) (negative y) (natAbs x) (natAbs y) (whole-value f x h) (whole-value f y k) ∙ sum-whole f x y))
 
--- ---- up to 2 ^ prec nothing is rounded, so a whole number is read back
+-- ---- up to 2 ^ prec nothing is rounded: a pattern stands for the whole number
+
+-- The number ± m · 2^e of a finite float is z: the same sign and the same magnitude. A NaN and an infinity are no number.
+abbrev pub Is : Float → ℤ → Type 0
+Is nan z = ⊥
+Is (inf s) z = ⊥
+Is (fin s m e) z = (s ≡ negative z) × (m * up e ≡ natAbs z * down e)
+
+is-value : (x : Float) (z : ℤ) → HasValue x (negative z) (natAbs z) 1 → Is x z
+is-value nan z h = h
+is-value (inf s) z h = h
+is-value (fin s m e) z h = (h .0, sym (mul-one (m * up e)) ∙ h .1)
 
 twice-hid : (f : Format) → 2 ^ prec f ≡ 2 * hid f
 twice-hid binary32 = refl
 twice-hid binary64 = refl
-
-narrow : (f : Format) → prec f < width f - 1
-narrow binary32 = lit< tt
-narrow binary64 = lit< tt
-
-back : (f : Format) (z : ℤ) → natAbs z ≤ 2 ^ prec f → toSigned (width f - 1) (ofInt f z) ≡ z
-unfolding inFloat
-back f (pos n) h = positive-back f (width f - 1) n (le→leb n (2 ^ prec f) h) (lt-of-le-of-lt h (pow-lt (narrow f))) .1
-back f (negsuc n) h = negative-back f (width f - 1) n (lt→ltb n (2 ^ prec f) h) (le-trans h (lt→le (pow-lt (narrow f)))) .1
-  where
-    lt→le : {a b : ℕ} → a < b → a ≤ b
-    lt→le h = omega arith
 
 difference-size : (c a b : ℕ) → a ≤ c → suc b ≤ c → (t : Bool) → natAbs (cond t (negsuc (suc b - suc a)) (pos (a - suc b))) ≤ 2 * c
 difference-size c a b h k true = omega arith
@@ -134,12 +132,27 @@ sum-size c (negsuc a) (negsuc b) h k = omega arith
 sum-size c (pos a) (negsuc b) h k = difference-size c a b h k (ltb a (suc b))
 sum-size c (negsuc a) (pos b) h k = difference-size c b a k h (ltb b (suc a))
 
-pub exact : (f : Format) (x y : ℤ) → natAbs x ≤ hid f → natAbs y ≤ hid f
-    → (fadd f (whole f x) (whole f y) ≡ whole f (x +ℤ y)) × (read-back f (fadd f (whole f x) (whole f y)) ≡ x +ℤ y)
+stands : (f : Format) (z : ℤ) → natAbs z ≤ 2 * hid f → Is (ofBits f (whole f z)) z
+stands f z h =
+    rw (ofBits-toBits f (ofInt f z) (ofInt-fits f z)) (is-value (ofInt f z) z (whole-value f z (le-trans h (le-of-eq (sym (twice-hid f))))))
+
+-- What "sums of whole numbers are exact" says: the patterns of x and of y stand for x and y, and the pattern of their sum for x + y. So nothing is lost at either end.
+pub record Exact (f : Format) (x y : ℤ) : Type 0 where
+  pub first : Is (ofBits f (whole f x)) x
+  pub second : Is (ofBits f (whole f y)) y
+  pub sum-is : Is (ofBits f (fadd f (whole f x) (whole f y))) (x +ℤ y)
+
+pub exact : (f : Format) (x y : ℤ) → natAbs x ≤ hid f → natAbs y ≤ hid f → Exact f x y
 exact f x y h k =
-    let e : fadd f (whole f x) (whole f y) ≡ whole f (x +ℤ y) = rounded-once f x y (le-trans h (half f)) (le-trans k (half f)) in
-    (e, rw (e, ofBits-toBits f (ofInt f (x +ℤ y)) (ofInt-fits f (x +ℤ y))) (back f (x +ℤ y) (le-trans (sum-size (hid f) x y h k) (le-of-eq (sym (twice-hid f))))))
-  where
-    half : (f : Format) → hid f ≤ 2 ^ prec f
-    half binary32 = lit≤ tt
-    half binary64 = lit≤ tt
+    let once : (n : ℕ) → n ≤ hid f → n ≤ 2 * hid f = λ n l. omega arith in
+    let e : fadd f (whole f x) (whole f y) ≡ whole f (x +ℤ y) =
+    rounded-once f x y (le-trans (once (natAbs x) h) (le-of-eq (sym (twice-hid f)))) (le-trans (once (natAbs y) k) (le-of-eq (sym (twice-hid f)))) in
+    record {
+      first = stands f x (once (natAbs x) h);
+      second = stands f y (once (natAbs y) k);
+      sum-is = rw e (stands f (x +ℤ y) (sum-size (hid f) x y h k));
+    }
+
+-- "f32 sums of whole numbers of magnitude up to 2^23 are exact"
+pub exact-f32 : (x y : ℤ) → natAbs x ≤ 2 ^ 23 → natAbs y ≤ 2 ^ 23 → Exact binary32 x y
+exact-f32 x y h k = exact binary32 x y h k

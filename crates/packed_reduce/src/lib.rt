@@ -42,32 +42,32 @@ pub fn all_true64(a: u64) -> bool
 pub fn bitmask8(a: u64) -> u32
     ensures { λ r. ⌜ r ≡ half-bitmask 8 a ⌝ }
 {
-    let mut mask = ((a >> 7) % 2) as u32;
-    mask |= (((a >> 15) % 2) as u32) << 1;
-    mask |= (((a >> 23) % 2) as u32) << 2;
-    mask |= (((a >> 31) % 2) as u32) << 3;
-    mask |= (((a >> 39) % 2) as u32) << 4;
-    mask |= (((a >> 47) % 2) as u32) << 5;
-    mask |= (((a >> 55) % 2) as u32) << 6;
-    mask |= (((a >> 63) % 2) as u32) << 7;
+    let mut mask = ((a >> 7) & 1) as u32;
+    mask |= (((a >> 15) & 1) as u32) << 1;
+    mask |= (((a >> 23) & 1) as u32) << 2;
+    mask |= (((a >> 31) & 1) as u32) << 3;
+    mask |= (((a >> 39) & 1) as u32) << 4;
+    mask |= (((a >> 47) & 1) as u32) << 5;
+    mask |= (((a >> 55) & 1) as u32) << 6;
+    mask |= (((a >> 63) & 1) as u32) << 7;
     mask
 }
 
 pub fn bitmask16(a: u64) -> u32
     ensures { λ r. ⌜ r ≡ half-bitmask 16 a ⌝ }
 {
-    let mut mask = ((a >> 15) % 2) as u32;
-    mask |= (((a >> 31) % 2) as u32) << 1;
-    mask |= (((a >> 47) % 2) as u32) << 2;
-    mask |= (((a >> 63) % 2) as u32) << 3;
+    let mut mask = ((a >> 15) & 1) as u32;
+    mask |= (((a >> 31) & 1) as u32) << 1;
+    mask |= (((a >> 47) & 1) as u32) << 2;
+    mask |= (((a >> 63) & 1) as u32) << 3;
     mask
 }
 
 pub fn bitmask32(a: u64) -> u32
     ensures { λ r. ⌜ r ≡ half-bitmask 32 a ⌝ }
 {
-    let mut mask = ((a >> 31) % 2) as u32;
-    mask |= (((a >> 63) % 2) as u32) << 1;
+    let mut mask = ((a >> 31) & 1) as u32;
+    mask |= (((a >> 63) & 1) as u32) << 1;
     mask
 }
 

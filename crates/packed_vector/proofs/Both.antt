@@ -3,13 +3,14 @@
 use mathlib.Core.Path.{_≡_, refl, sym, ap, ap₂, _∙_}
 use mathlib.Core.Bool.{Bool, true, false, cond, _&&_}
 use mathlib.Core.List.{List, [], _∷_, _++_, map}
-use Prim.Native.Nat.{ℕ, _+_, _*_, _/_, _^_, _<_}
-use native.Mathlib.Nat.{one-mul, zero-mul}
+use Prim.Native.Nat.{ℕ, _+_, _*_, _/_, _%_, _^_, _<_, _≤_}
+use native.Mathlib.Nat.{add-comm, mul-comm, one-mul, zero-mul, mod-eq-of-lt, lt-of-lt-of-le}
 use native.Mathlib.Omega.{arith}
 use borrow.Author.Tests.{eq-eqb, ne-eqb, eqb-true, eqb-false}
-use lib.Bits.{bitOr, or-add-and, and-le-l, and-le-r}
+use lib.Bits.{bitOr, or-add-and, or-shifted-r, and-le-l, and-le-r}
 use lib.Dec.{eqb}
 use lib.ListN.{length, length-map}
+use lib.Pow.{pow-mono, shl-lt}
 use Rattle.standard.specs.Lanes.{digits, joined, unary, binary}
 use Rattle.standard.specs.Vector.{no-zero, any-true, all-true, bitmask}
 use Rattle.standard.proofs.Digits.{length-digits, joined-append}
@@ -50,21 +51,28 @@ module _ (w : ℕ) (d : Divides w) (a : V128) (ha : a .lo < 2 ^ 64) where
       no-zero-append [] ys = sym (one-mul (no-zero ys))
       no-zero-append (x ∷ xs) ys = ap (λ (n : ℕ). cond (eqb x 0) 0 n) (no-zero-append xs ys) ∙ by (eqb x 0) (no-zero xs) (no-zero ys)
 
-  -- the bitmask of the high half above that of the low
-  pub both-bitmask : {lo hi : ℕ} → lo ≡ half-bitmask w (a .lo) → hi ≡ half-bitmask w (a .hi) → lo + 2 ^ (64 / w) * hi ≡ bitmask w (number a)
+-- a bitmask of n lanes is below 2^n
+mask-lt : (w x : ℕ) {m : ℕ} → m ≡ half-bitmask w x → m < 2 ^ (64 / w)
+unfolding half-bitmask
+mask-lt w x e = rw e (signs-below w (64 / w) x)
+
+-- the bitmask of the high half put above that of the low, in 32 bits
+module _ (w : ℕ) (d : Divides w) (fits : 64 / w + 64 / w ≤ 32) (a : V128) (ha : a .lo < 2 ^ 64) where
+  above : {lo hi : ℕ} → lo ≡ half-bitmask w (a .lo) → hi ≡ half-bitmask w (a .hi) → bitOr lo (hi * 2 ^ (64 / w) % 2 ^ 32) ≡ lo + 2 ^ (64 / w) * hi
+  above {lo} {hi} el eh =
+      ap (bitOr lo) (mod-eq-of-lt (lt-of-lt-of-le (shl-lt (64 / w) (64 / w) (mask-lt w (a .hi) eh)) (pow-mono fits)))
+      ∙ or-shifted-r hi (64 / w) lo (mask-lt w (a .lo) el) ∙ add-comm (hi * 2 ^ (64 / w)) lo ∙ ap (λ (n : ℕ). lo + n) (mul-comm hi (2 ^ (64 / w)))
+
+  pub both-bitmask : {lo hi : ℕ} → lo ≡ half-bitmask w (a .lo) → hi ≡ half-bitmask w (a .hi) → bitOr lo (hi * 2 ^ (64 / w) % 2 ^ 32) ≡ bitmask w (number a)
   unfolding half-bitmask bitmask
   both-bitmask el eh =
-      ap₂ (λ (l h : ℕ). l + 2 ^ (64 / w) * h) el eh
+      above el eh
+      ∙ ap₂ (λ (l h : ℕ). l + 2 ^ (64 / w) * h) el eh
       ∙ ap (λ (n : ℕ). joined 1 (map (sign-bit w) (digits w (64 / w) (a .lo))) + 2 ^ n * joined 1 (map (sign-bit w) (digits w (64 / w) (a .hi))))
       (sym (one-mul (length (map (sign-bit w) (digits w (64 / w) (a .lo)))) ∙ length-map (digits w (64 / w) (a .lo)) (sign-bit w) ∙ length-digits w (64 / w) (a .lo)))
       ∙ sym (joined-append 1 (map (sign-bit w) (digits w (64 / w) (a .lo))) (map (sign-bit w) (digits w (64 / w) (a .hi))))
       ∙ ap (joined 1) (sym (map-append (sign-bit w) (digits w (64 / w) (a .lo)) (digits w (64 / w) (a .hi))))
       ∙ ap (λ (ds : List ℕ). joined 1 (map (sign-bit w) ds)) (sym (lanes-halves w (64 / w) (d .0) (d .1) (a .lo) (a .hi) ha))
-
--- a bitmask of n lanes is below 2^n
-pub mask-lt : (w x : ℕ) {m : ℕ} → m ≡ half-bitmask w x → m < 2 ^ (64 / w)
-unfolding half-bitmask
-mask-lt w x e = rw e (signs-below w (64 / w) x)
 
 -- any bit of either half
 pub both-any-true : (a b : ℕ) (r : Bool) → cond r 1 0 ≡ any-true (bitOr a b) → cond r 1 0 ≡ any-true (a + 2 ^ 64 * b)

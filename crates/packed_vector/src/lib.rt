@@ -224,23 +224,23 @@ pub fn i64x2_all_true(a: V128) -> bool
 pub fn i8x16_bitmask(a: V128) -> u32
     ensures { λ r. ⌜ r ≡ bitmask 8 (number a) ⌝ }
 {
-    bitmask8(a.lo) + 256 * bitmask8(a.hi)
+    bitmask8(a.lo) | (bitmask8(a.hi) << 8)
 }
 
 pub fn i16x8_bitmask(a: V128) -> u32
     ensures { λ r. ⌜ r ≡ bitmask 16 (number a) ⌝ }
 {
-    bitmask16(a.lo) + 16 * bitmask16(a.hi)
+    bitmask16(a.lo) | (bitmask16(a.hi) << 4)
 }
 
 pub fn i32x4_bitmask(a: V128) -> u32
     ensures { λ r. ⌜ r ≡ bitmask 32 (number a) ⌝ }
 {
-    bitmask32(a.lo) + 4 * bitmask32(a.hi)
+    bitmask32(a.lo) | (bitmask32(a.hi) << 2)
 }
 
 pub fn i64x2_bitmask(a: V128) -> u32
     ensures { λ r. ⌜ r ≡ bitmask 64 (number a) ⌝ }
 {
-    bitmask64(a.lo) + 2 * bitmask64(a.hi)
+    bitmask64(a.lo) | (bitmask64(a.hi) << 1)
 }

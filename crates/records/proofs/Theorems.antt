@@ -5,7 +5,7 @@ use mathlib.Core.List.{List, [], _∷_, _++_}
 use Prim.Native.Nat.{ℕ, zero, suc, _+_, _*_, _/_, _%_, _≤_, _<_}
 use native.Mathlib.Nat.{not-suc-le-zero, add-zero, zero-add}
 use native.Mathlib.Omega.{arith}
-use borrow.Author.Tests.{eq-eqb, ne-eqb, le-leb, leb-true, eqb-true}
+use borrow.Author.Tests.{eq-eqb, ne-eqb, le-leb, leb-true, eqb-true, eqb-false}
 use lib.Dec.{leb, eqb, eqb·suc-suc}
 use lib.ListN.{length, getD, take, drop, replicate, length-append, length-drop}
 use lib.Seq.{take-at, drop-at, drop-drop, getD-append-add, length-take-le}
@@ -171,7 +171,7 @@ whole n e = of (eqb (n % 32) 0) refl (one (whole-steps n) 0 _ e .0)
 few : (n : ℕ) → (n % 32 ≡ 0) × (n ≤ 8192) → (n ≡ 0 → ⊥) → 1 ≤ n / 32
 few n w ne = omega arith
 
--- whatever the recorder writes, the replay answers "agrees"
+-- the replay of a recording answers "agrees"
 pub replay-of-recording : (list : List ℕ) → list-refusal (length list) 0 256 ≡ 0 → (length list ≡ 0 → ⊥) → replay (definition.recording list) ≡ agrees
 unfolding replay definition.recording records-of
 replay-of-recording list e ne =
@@ -202,18 +202,48 @@ pub length-recording : (list : List ℕ) → length (definition.recording list) 
 unfolding definition.recording packed
 length-recording list = length-packed (blocks-for (length (records-of list))) 0 (records-of list)
 
--- what is written has room
-pub in-room : (list out : List ℕ) (n : ℕ) → definition.recorded list out .0 ≡ wrote n → n ≤ length out
+-- ---- what is written
+
+-- the answers of the recorder, by its three tests
+abbrev answered : List ℕ → List ℕ → Bool → Bool → Bool → Recorded × List ℕ
+answered list out a b c =
+    cond a (cond b (empty, out) (cond c (wrote (length (definition.recording list)), definition.recording list ++ drop (length (definition.recording list)) out) (short, out)))
+    (rejected (list-refusal (length list) 0 256), out)
+
+-- n bytes are written only of a list that is neither refused nor empty, and they are its recording
+record Written (list out : List ℕ) (n : ℕ) (left : List ℕ) : Type 0 where
+  accepted : list-refusal (length list) 0 256 ≡ 0
+  steps : length list ≡ 0 → ⊥
+  room : n ≤ length out
+  bytes : take n left ≡ definition.recording list
+
+written-when : (list out : List ℕ) (n : ℕ) → definition.recorded list out .0 ≡ wrote n → Written list out n (definition.recorded list out .1)
 unfolding definition.recorded
-in-room list out n e = of (eqb (list-refusal (length list) 0 256) 0) (eqb (length list) 0) (leb (length (definition.recording list)) (length out)) refl e
+written-when list out n e = of (eqb (list-refusal (length list) 0 256) 0) (eqb (length list) 0) (leb (length (definition.recording list)) (length out)) refl refl refl e
   where
-    of : (a b c : Bool) → leb (length (definition.recording list)) (length out) ≡ c
-        → cond {A = Recorded × List ℕ} a (cond b (empty, out) (cond c (wrote (length (definition.recording list)), definition.recording list ++ drop (length (definition.recording list)) out) (short, out)))
-        (rejected (list-refusal (length list) 0 256), out) .0 ≡ wrote n → n ≤ length out
-    of true false true f g = let q : length (definition.recording list) ≡ n = cc in let l = leb-true (length (definition.recording list)) (length out) f in omega arith
-    of true false false f g = let z : _≡_ {A = ℕ} 0 1 = cc in absurd (omega arith)
-    of true true c f g = let z : _≡_ {A = ℕ} 0 1 = cc in absurd (omega arith)
-    of false b c f g = let z : _≡_ {A = ℕ} 0 1 = cc in absurd (omega arith)
+    of : (a b c : Bool) → eqb (list-refusal (length list) 0 256) 0 ≡ a → eqb (length list) 0 ≡ b → leb (length (definition.recording list)) (length out) ≡ c
+        → answered list out a b c .0 ≡ wrote n → Written list out n (answered list out a b c .1)
+    of true false true p q f g =
+        let file = definition.recording list in
+        let l : length file ≡ n = cc in
+        record {
+          accepted = eqb-true (list-refusal (length list) 0 256) 0 p;
+          steps = eqb-false (length list) 0 q;
+          room = (let h = leb-true (length file) (length out) f in omega arith);
+          bytes = take-at file (drop (length file) out) n l;
+        }
+    of true false false p q f g = let z : _≡_ {A = ℕ} 0 1 = cc in absurd (omega arith)
+    of true true c p q f g = let z : _≡_ {A = ℕ} 0 1 = cc in absurd (omega arith)
+    of false b c p q f g = let z : _≡_ {A = ℕ} 0 1 = cc in absurd (omega arith)
+
+pub in-room : (list out : List ℕ) (n : ℕ) → definition.recorded list out .0 ≡ wrote n → n ≤ length out
+in-room list out n e = written-when list out n e .room
+
+-- whatever list and buffer the recorder is given: the replay of the bytes that it wrote answers "agrees"
+pub replay-of-written : (list out : List ℕ) (n : ℕ) → definition.recorded list out .0 ≡ wrote n → replay (take n (definition.recorded list out .1)) ≡ agrees
+replay-of-written list out n e =
+    let w = written-when list out n e in
+    ap replay (w .bytes) ∙ replay-of-recording list (w .accepted) (w .steps)
 
 -- ---- the recorder's answers
 

@@ -31,9 +31,9 @@ sets =
     ∷ (selected 8 0x12 0x34 0xff allows 0x12 ∷ [])
     -- −32768 and −32768
     ∷ (multiplied 0x8000 0x8000 allows 0x7fff ∷ 0x8000 ∷ [])
-    -- a negative NaN and 0; −0 and 0
+    -- a negative NaN and 0; 0 and −0
     ∷ (chosen fmin binary32 0xffc0_0000 0 allows 0x7fc0_0000 ∷ 0xffc0_0000 ∷ 0xffc0_0000 ∷ 0 ∷ [])
-    ∷ (chosen fmin binary32 0x8000_0000 0 allows 0x8000_0000 ∷ 0 ∷ [])
+    ∷ (chosen fmin binary32 0 0x8000_0000 allows 0x8000_0000 ∷ 0 ∷ 0x8000_0000 ∷ [])
     -- −128·−127 twice, or −128·129 twice, which is held at −32768; four of the first and 1
     ∷ (dots 0x8080 0x8181 allows 32512 ∷ 0x8000 ∷ [])
     ∷ (dots-added 0x8080_8080 0x8181_8181 1 allows 65025 ∷ (2 ^ 32 - 65535) ∷ [])
@@ -47,11 +47,13 @@ pub sets-hold : map (λ (s : Set). s .values) sets ≡ map (λ (s : Set). s .exp
 unfolding bitwise inot lt eq ofBits toBits nanBits
 sets-hold = refl
 
--- four −128 here: −32768; with 1·−1 twice beside them −32770, which is not allowed (docs/DIFFERENCES.md)
+-- four −128 here: −32768, which is the second choice's; beside it, in the same vector, −128·−127 twice: 32512, which is the first choice's; so no one choice gives this vector. In a 32-bit lane with
+-- 1·−1 twice beside them −32770, which is not allowed (docs/DIFFERENCES.md)
 pub four : List Case
 unfolding extract dot binary extadd-pairwise
 four =
-    (extract 16 (relaxed-dot 0x8080 0x8080) 0 gives 0x8000)
+    (extract 16 (relaxed-dot 0x8080_8080 0x8181_8080) 0 gives 0x8000)
+    ∷ (extract 16 (relaxed-dot 0x8080_8080 0x8181_8080) 1 gives 32512)
     ∷ (extract 32 (relaxed-dot-add 0x0101_8080 0xffff_8080 0) 0 gives 2 ^ 32 - 32770)
     ∷ []
 

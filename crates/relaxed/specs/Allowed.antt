@@ -1,11 +1,13 @@
 -- What WebAssembly 3.0 allows the relaxed instructions to give ("Relaxed Operations" of its numerics): a set of values for each lane. The set is the list of
--- what its parameters choose from; of the NaNs that it leaves open only the canonical ones and the operands are listed, so the sets here are the smaller ones.
-use Prim.Native.Nat.{ℕ, _-_, _/_, _%_, _^_}
+-- what its parameters choose from, the plain operation's value first as there; of the NaNs that it leaves open only the canonical ones and the operands are listed, so the sets here are the smaller ones.
+use mathlib.Core.Path.{_≡_}
+use Prim.Native.Nat.{ℕ, _-_, _/_, _%_, _^_, _<_}
 use mathlib.Core.Bool.{cond, _&&_, _||_}
 use mathlib.Core.List.{List, [], _∷_}
 use lib.Dec.{ltb, leb, eqb}
 use lib.Ieee.{Format, nan, toBits, nanBits}
 use lib.ListN.{getD}
+use Rattle.standard.specs.Lanes.{extract}
 use Rattle.standard.specs.Integer.{iadd, iadd-sat-s, imul, iq15mulrsat-s, ibitselect, extend-u, extend-s}
 use Rattle.standard.specs.Float.{fneg, fabs}
 
@@ -27,7 +29,7 @@ multiplied a b = cond (eqb a 0x8000 && eqb b 0x8000) (0x7fff ∷ 0x8000 ∷ []) 
 abbrev pub chosen : (Format → ℕ → ℕ → ℕ) → Format → ℕ → ℕ → List ℕ
 chosen op f a b =
     cond (nanBits f a || nanBits f b) (toBits f nan ∷ fneg f (toBits f nan) ∷ a ∷ b ∷ [])
-    (cond (eqb (fabs f a) 0 && eqb (fabs f b) 0) (a ∷ b ∷ []) (op f a b ∷ []))
+    (cond (eqb (fabs f a) 0 && eqb (fabs f b) 0) (op f a b ∷ a ∷ b ∷ []) (op f a b ∷ []))
 
 -- i16x8.relaxed_dot_i8x16_i7x16_s on a pair of lanes: the two bytes of a, read as signed, times the two bytes of b, read as signed or as unsigned ones; the sum
 -- of the products held to the range. Byte lanes 2i and 2i + 1 are the low and the high byte of 16-bit lane i.
@@ -45,3 +47,10 @@ dots a b = dotted extend-s a b ∷ dotted extend-u a b ∷ []
 
 abbrev pub dots-added : ℕ → ℕ → ℕ → List ℕ
 dots-added a b c = dotted-added extend-s a b c ∷ dotted-added extend-u a b c ∷ []
+
+-- A parameter is chosen once, so one choice holds for every lane of a vector: with choice c, counted from 0, lane i is value c of its set; a set of one value leaves nothing to choose.
+abbrev pub value : ℕ → List ℕ → ℕ
+value c vs = getD vs c (getD vs 0 0)
+
+abbrev pub ByChoice : ℕ → ℕ → ℕ → (ℕ → List ℕ) → Type 0
+ByChoice c w r sets = (i : ℕ) → i < 128 / w → extract w r i ≡ value c (sets i)

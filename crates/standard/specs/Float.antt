@@ -12,13 +12,9 @@ abbrev pub width : Format → ℕ
 width binary32 = 32
 width binary64 = 64
 
--- The pattern of a whole number, rounded once to the nearest value of the format, a tie to the even one; and the whole number that a pattern is, cut
--- toward zero and held to as many bits as the pattern has.
+-- The pattern of a whole number, rounded once to the nearest value of the format, a tie to the even one.
 abbrev pub whole : Format → ℤ → ℕ
 whole f z = toBits f (Ieee.ofInt f z)
-
-abbrev pub read-back : Format → ℕ → ℤ
-read-back f a = Ieee.toSigned (width f - 1) (ofBits f a)
 
 -- feq, fne, flt, fgt, fle, fge: −0 equals +0, and with a NaN only "not equal" is true.
 abbrev pub feq : Format → ℕ → ℕ → ℕ
@@ -67,7 +63,7 @@ fmul f a b = toBits f (Ieee.mul f (ofBits f a) (ofBits f b))
 abbrev pub fdiv : Format → ℕ → ℕ → ℕ
 fdiv f a b = toBits f (Ieee.div f (ofBits f a) (ofBits f b))
 
--- Whether a is below b, −0 counted below +0. Equal numbers have one pattern, but for the zeros: there the sign of a decides.
+-- Whether a is below b, −0 counted below +0. Equal numbers have one pattern, but for the zeros (proved: `float_theorems/proofs/OnePattern`): there the sign of a decides.
 abbrev pub under : Format → ℕ → ℕ → Bool
 under f a b = Ieee.lt (ofBits f a) (ofBits f b) || (Ieee.eq (ofBits f a) (ofBits f b) && leb (top f) a)
 

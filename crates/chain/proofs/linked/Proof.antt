@@ -23,10 +23,12 @@ picked-requires : tie.Need-picked-requires
 picked-requires c κs = search needs
 
 returns : tie.Need-returns
-returns c =
-    c .picked .ensures
-    ∙ ap₂ (λ (t is : List ℕ). map (λ i. getD t (i % 32) 0) is)
-    (c .before .before .beside .ensures ∙ ap (λ (p : List ℕ). c .before .before .before .before .args .current ++ p) (c .before .before .before .partner-of .ensures)) (c .before .indices-of .ensures)
+returns c = (
+  c .picked .ensures
+      ∙ ap₂ (λ (t is : List ℕ). map (λ i. getD t (i % 32) 0) is)
+      (c .before .before .beside .ensures ∙ ap (λ (p : List ℕ). c .before .before .before .before .args .current ++ p) (c .before .before .before .partner-of .ensures)) (c .before .indices-of .ensures),
+  search needs,
+)
 
 pub linked-spec : {M : Type 1} → statement M
 linked-spec =

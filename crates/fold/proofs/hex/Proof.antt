@@ -1,17 +1,23 @@
--- `fold::hex` is safe and ends. Assumes nothing.
-use Prim.Native.Nat.{_≤_, _-_}
+-- `fold::hex` meets its contract: two digits a turn. Assumes nothing.
+use Prim.Native.Nat.{_≤_, _-_, _*_}
+use mathlib.Core.Path.{_≡_, refl}
+use lib.ListN.{length, take, length-set}
+use native.Mathlib.Omega.{arith}
+use Rattle.fold.specs.Text.{hex-bytes}
+use Rattle.fold.proofs.Laws.{digits-more, all-digits}
 use borrow.Author.Needs.{needs}
 use Rattle.fold.proofs.hex.Statement.{statement}
 use Rattle.fold.proofs.hex.Tie as tie
 
 abbrev Inv-loop : tie.InvT-loop
-Inv-loop bytes out₀ i₀ out i = i ≤ 16
+Inv-loop bytes out₀ i₀ out i = (i ≤ 16) × ((length out ≡ 32) × (take (2 * i) out ≡ hex-bytes (take i bytes)))
 
 abbrev μ-loop : tie.MeasureT-loop
 μ-loop bytes out₀ i₀ out i = 16 - i
 
 loop-holds : tie.Need-loop-holds Inv-loop μ-loop
-loop-holds c = search needs
+unfolding hex-bytes
+loop-holds c = (search needs, (refl, refl))
 
 array-read-digit : tie.Need-array-read-digit Inv-loop μ-loop
 array-read-digit c = search needs
@@ -47,10 +53,15 @@ loop-less : tie.Need-loop-less Inv-loop μ-loop
 loop-less c = search needs
 
 loop-again : tie.Need-loop-again Inv-loop μ-loop
-loop-again c = search needs
+loop-again c =
+    let at = c .before .before .before .loop in
+    (search needs, (simp length-set (at .inv .1 .0), digits-more (at .out) (c .before .before .before .before .args .t1) (at .i) _ _ (search needs) (search needs) (c .before .digit .ensures) (c .digit2 .ensures) (at .inv .1 .1)))
 
 returns : tie.Need-returns Inv-loop μ-loop
-returns c = search needs
+returns c =
+    let at = c .before .loop in
+    let all : at .i ≡ 16 = omega arith in
+    all-digits (at .out) (c .before .before .args .t1) (at .inv .1 .0) (search needs) (rw all at (at .inv .1 .1))
 
 pub hex-spec : {M : Type 1} → statement M
 hex-spec =

@@ -1,8 +1,8 @@
 -- `packed_vector::i16x8_bitmask` meets its contract. Assumes nothing.
 use borrow.Author.Needs.{needs}
 use mathlib.Core.Path.{refl}
-use native.Mathlib.Omega.{arith}
-use Rattle.packed_vector.proofs.Both.{both-bitmask, mask-lt}
+use lib.Dec.{lit≤}
+use Rattle.packed_vector.proofs.Both.{both-bitmask}
 use Rattle.packed_vector.proofs.i16x8_bitmask.Statement.{statement}
 use Rattle.packed_vector.proofs.i16x8_bitmask.Tie as tie
 
@@ -12,14 +12,8 @@ bitmask16-requires c κs = search needs
 bitmask16-requires-2 : tie.Need-bitmask16-requires-2
 bitmask16-requires-2 c κs = search needs
 
-mul-result : tie.Need-mul-result
-mul-result c = omega (arith, mask-lt 16 (c .before .before .args .a .hi) (c .bitmask162 .ensures))
-
-add-result : tie.Need-add-result
-add-result c = omega (arith, mask-lt 16 (c .before .before .args .a .lo) (c .before .bitmask16 .ensures), mask-lt 16 (c .before .before .args .a .hi) (c .bitmask162 .ensures))
-
 returns : tie.Need-returns
-returns c = both-bitmask 16 (refl, refl) (c .before .before .args .a) (search needs) (c .before .bitmask16 .ensures) (c .bitmask162 .ensures)
+returns c = both-bitmask 16 (refl, refl) (lit≤ tt) (c .before .before .args .a) (search needs) (c .before .bitmask16 .ensures) (c .bitmask162 .ensures)
 
 pub i16x8-bitmask-spec : {M : Type 1} → statement M
-i16x8-bitmask-spec = tie.close (tie.spec bitmask16-requires bitmask16-requires-2 mul-result add-result returns)
+i16x8-bitmask-spec = tie.close (tie.spec bitmask16-requires bitmask16-requires-2 returns)

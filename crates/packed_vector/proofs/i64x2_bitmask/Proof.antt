@@ -1,8 +1,8 @@
 -- `packed_vector::i64x2_bitmask` meets its contract. Assumes nothing.
 use borrow.Author.Needs.{needs}
 use mathlib.Core.Path.{refl}
-use native.Mathlib.Omega.{arith}
-use Rattle.packed_vector.proofs.Both.{both-bitmask, mask-lt}
+use lib.Dec.{lit≤}
+use Rattle.packed_vector.proofs.Both.{both-bitmask}
 use Rattle.packed_vector.proofs.i64x2_bitmask.Statement.{statement}
 use Rattle.packed_vector.proofs.i64x2_bitmask.Tie as tie
 
@@ -12,14 +12,8 @@ bitmask64-requires c κs = search needs
 bitmask64-requires-2 : tie.Need-bitmask64-requires-2
 bitmask64-requires-2 c κs = search needs
 
-mul-result : tie.Need-mul-result
-mul-result c = omega (arith, mask-lt 64 (c .before .before .args .a .hi) (c .bitmask642 .ensures))
-
-add-result : tie.Need-add-result
-add-result c = omega (arith, mask-lt 64 (c .before .before .args .a .lo) (c .before .bitmask64 .ensures), mask-lt 64 (c .before .before .args .a .hi) (c .bitmask642 .ensures))
-
 returns : tie.Need-returns
-returns c = both-bitmask 64 (refl, refl) (c .before .before .args .a) (search needs) (c .before .bitmask64 .ensures) (c .bitmask642 .ensures)
+returns c = both-bitmask 64 (refl, refl) (lit≤ tt) (c .before .before .args .a) (search needs) (c .before .bitmask64 .ensures) (c .bitmask642 .ensures)
 
 pub i64x2-bitmask-spec : {M : Type 1} → statement M
-i64x2-bitmask-spec = tie.close (tie.spec bitmask64-requires bitmask64-requires-2 mul-result add-result returns)
+i64x2-bitmask-spec = tie.close (tie.spec bitmask64-requires bitmask64-requires-2 returns)

@@ -1,0 +1,3 @@
+pub mod Nearest
+pub mod OnePattern
+pub mod Whole
