@@ -114,7 +114,7 @@ pub fn q15mulr_sat_s16(a: u16, b: u16) -> u16
 {
     let rounded = (wide16(a) * wide16(b) + 16384) >> 15;
     if 32767 < rounded {
-        unsigned16(32767)
+        unsigned16(i16::MAX)
     } else {
         unsigned16(rounded as i16)
     }
