@@ -24,7 +24,8 @@ both-whole : (xs ys : List (List ℕ)) → Whole xs → Whole ys → Whole (xs +
 both-whole [] ys wx wy = wy
 both-whole (x ∷ xs) ys wx wy = (wx .0, both-whole xs ys (wx .1) wy)
 
-pub whole-more : (links : List (List ℕ)) (k : ℕ) (d : List ℕ) → k < length links → length (getD links k d) ≡ 17 → Whole (take k links) → Whole (take (k + 1) links)
+pub whole-more : (links : List (List ℕ)) (k : ℕ) (d : List ℕ) → k < length links → length (getD links k d) ≡ 17 → Whole (take k links)
+    → Whole (take (k + 1) links)
 whole-more links k d h l w = rw (add-one, take-suc links k d) (both-whole (take k links) (getD links k d ∷ []) w (l, tt))
 
 pub whole-all : (links : List (List ℕ)) (k : ℕ) → length links ≤ k → Whole (take k links) → Whole links

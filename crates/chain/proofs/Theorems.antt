@@ -121,7 +121,8 @@ unfolding folded chained
 no-link = refl
 
 -- a chain that is not refused, applied, is the shuffle by that list, which is not refused
-pub applied-once : (links : List (List ℕ)) (is : List ℕ) → OneShuffle links is → refusal links ≡ 0 → (a b : ℕ) → a < 2 ^ 128 → b < 2 ^ 128 → applied links a b ≡ at-indices is (shuffle is a b)
+pub applied-once : (links : List (List ℕ)) (is : List ℕ) → OneShuffle links is → refusal links ≡ 0 → (a b : ℕ) → a < 2 ^ 128 → b < 2 ^ 128
+    → applied links a b ≡ at-indices is (shuffle is a b)
 applied-once links is one unrefuse a b ha hb =
     ap (λ (n : ℕ). answered n (chained links a b a)) unrefuse
     ∙ ap given (sym (one .does a b ha hb))

@@ -84,7 +84,8 @@ fn partner_of(n: u8, current: [u8; 16]) -> [u8; 16]
     }
 }
 
-// Where the bytes of the next current vector stand in a and b, by where those of this one do. A link has its seventeen bytes by its type, which `fold` needs to know.
+// Where the bytes of the next current vector stand in a and b, by where those of this one do. A link has its seventeen bytes by its type, which `fold` needs
+// to know.
 fn linked(current: [u8; 16], link: [u8; 17]) -> [u8; 16]
     ensures { λ r. ⌜ r ≡ map (λ i. getD (current ++ partner (getD link 0 0) (counted 16 0) (counted 16 16) current) (i % 32) 0) (indices link) ⌝ }
     ensures { λ r. ⌜ length link ≡ 17 ⌝ }

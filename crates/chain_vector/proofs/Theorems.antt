@@ -1,4 +1,5 @@
--- The theorem of order 13, of the code: a chain that is not refused, applied to two vectors, gives what one `i8x16_shuffle` by the indices that `fold` writes gives. Assumes nothing.
+-- The theorem of order 13, of the code: a chain that is not refused, applied to two vectors, gives what one `i8x16_shuffle` by the indices that `fold` writes
+-- gives. Assumes nothing.
 use mathlib.Core.Path.{_≡_, sym, _∙_}
 use mathlib.Core.List.{List}
 use Prim.Native.Nat.{ℕ, _*_, _^_, _<_}
@@ -18,7 +19,9 @@ number-lt : (v : V128) → Held v → number v < 2 ^ 128
 number-lt v h = rw (add-comm (v .lo) (2 ^ 64 * v .hi), mul-comm (2 ^ 64) (v .hi)) (digits-lt (h .high) (h .low))
 
 -- n is what `fold` answers and `out` what it writes, r what `apply` gives, and q what `i8x16_shuffle` gives by `out`: each by its promise
-pub one-shuffle : (links : List (List ℕ)) (out : List ℕ) (n : ℕ) → n ≡ refusal links → (n ≡ 0 → OneShuffle links out) → n ≡ 0 → (a b : V128) → Held a → Held b → (r q : VectorAnswer)
-    → vector-answer r ≡ applied links (number a) (number b) → vector-answer q ≡ at-indices out (shuffle out (number a) (number b)) → vector-answer r ≡ vector-answer q
+pub one-shuffle : (links : List (List ℕ)) (out : List ℕ) (n : ℕ) → n ≡ refusal links → (n ≡ 0 → OneShuffle links out) → n ≡ 0 → (a b : V128) → Held a
+    → Held b → (r q : VectorAnswer)
+    → vector-answer r ≡ applied links (number a) (number b) → vector-answer q ≡ at-indices out (shuffle out (number a) (number b))
+    → vector-answer r ≡ vector-answer q
 one-shuffle links out n judged writes z a b ha hb r q er eq =
     er ∙ applied-once links out (writes z) (sym judged ∙ z) (number a) (number b) (number-lt a ha) (number-lt b hb) ∙ sym eq

@@ -1,5 +1,6 @@
--- Sums of whole numbers are exact, over both formats (document 02, order 4). Of magnitudes up to `hid`, 2^23 at f32 and 2^52 at f64, the pattern of x, the pattern of y and the pattern of their sum are
--- patterns of exactly x, y and x + y (`exact`; `exact-f32` names f32 and 2^23 as the order does). Up to twice that the sum of two patterns is the pattern of the sum (`rounded-once`). Assumes nothing.
+-- Sums of whole numbers are exact, over both formats (document 02, order 4). Of magnitudes up to `hid`, 2^23 at f32 and 2^52 at f64, the pattern of x, the
+-- pattern of y and the pattern of their sum are patterns of exactly x, y and x + y (`exact`; `exact-f32` names f32 and 2^23 as the order does). Up to twice
+-- that the sum of two patterns is the pattern of the sum (`rounded-once`). Assumes nothing.
 use mathlib.Core.Path.{_≡_, refl, sym, ap, _∙_}
 use mathlib.Core.Bool.{Bool, true, false, not, cond, _&&_}
 use Prim.Native.Nat.{ℕ, suc, _+_, _-_, _*_, _^_, _≤_, _<_}
@@ -136,7 +137,8 @@ stands : (f : Format) (z : ℤ) → natAbs z ≤ 2 * hid f → Is (ofBits f (who
 stands f z h =
     rw (ofBits-toBits f (ofInt f z) (ofInt-fits f z)) (is-value (ofInt f z) z (whole-value f z (le-trans h (le-of-eq (sym (twice-hid f))))))
 
--- What "sums of whole numbers are exact" says: the patterns of x and of y stand for x and y, and the pattern of their sum for x + y. So nothing is lost at either end.
+-- What "sums of whole numbers are exact" says: the patterns of x and of y stand for x and y, and the pattern of their sum for x + y. So nothing is lost at
+-- either end.
 pub record Exact (f : Format) (x y : ℤ) : Type 0 where
   pub first : Is (ofBits f (whole f x)) x
   pub second : Is (ofBits f (whole f y)) y

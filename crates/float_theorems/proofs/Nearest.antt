@@ -1,6 +1,8 @@
--- What `round` gives is nearest, a tie to the even one, over both formats (document 02, order 14), as the standard says it (4.3.3, "Rounding"): the candidates are the numbers that the format holds, which are
--- those that its patterns stand for, and the limit 2^(emax + 1), which counts as even and stands for infinity. Magnitudes are whole numbers, in units of the format's smallest value 2^-low.
---     nearest    ± num / den rounded is finite, no candidate is nearer to num / den, and where another is as near its pattern is even; or it is infinite, and no candidate is nearer than the limit
+-- What `round` gives is nearest, a tie to the even one, over both formats (document 02, order 14), as the standard says it (4.3.3, "Rounding"): the
+-- candidates are the numbers that the format holds, which are those that its patterns stand for, and the limit 2^(emax + 1), which counts as even and stands
+-- for infinity. Magnitudes are whole numbers, in units of the format's smallest value 2^-low.
+--     nearest    ± num / den rounded is finite, no candidate is nearer to num / den, and where another is as near its pattern is even; or it is infinite, and
+--                no candidate is nearer than the limit
 -- Assumes nothing.
 use mathlib.Core.Path.{_≡_, refl, sym, ap, _∙_, subst}
 use mathlib.Core.Bool.{Bool, true, false, cond, _&&_}
@@ -118,7 +120,8 @@ bounded f limit =
 
 -- ---- a pattern, by its magnitude, and that it is even where the digits kept are
 
-pub pattern-of : (f : Format) (s : Bool) (v : ℕ) (x : Float) → HasValue x s v (2 ^ low f) → toBits f x ≡ cond s (top f) 0 + (size v - prec f) * hid f + v / 2 ^ (size v - prec f)
+pub pattern-of : (f : Format) (s : Bool) (v : ℕ) (x : Float) → HasValue x s v (2 ^ low f)
+    → toBits f x ≡ cond s (top f) 0 + (size v - prec f) * hid f + v / 2 ^ (size v - prec f)
 unfolding toBits
 pattern-of f s v nan h = absurd h
 pattern-of f s v (inf t) h = absurd h

@@ -1,4 +1,5 @@
--- Equal numbers have one pattern, but for the zeros (`standard/specs/Float.antt`, `under`): two patterns whose floats are equal are the same pattern, or both are zeros, of either sign. Assumes nothing.
+-- Equal numbers have one pattern, but for the zeros (`standard/specs/Float.antt`, `under`): two patterns whose floats are equal are the same pattern, or both
+-- are zeros, of either sign. Assumes nothing.
 use mathlib.Core.Path.{_≡_, refl, sym, ap, _∙_, subst}
 use mathlib.Core.Bool.{Bool, true, false, not, cond, _&&_, _||_, Bool·beq, true≢false}
 use mathlib.Core.Logic.{_⊎_, inl, inr}
@@ -51,7 +52,8 @@ module _ (f : Format) (s : Bool) (m : ℕ) where
 
 module _ (f : Format) where
   -- of two magnitudes that are equal
-  equal-patterns : (s : Bool) (m : ℕ) (e : ℤ) (n : ℕ) (d : ℤ) → down d ≤ 2 ^ low f → m * up e * down d ≡ n * up d * down e → toBits f (fin s m e) ≡ toBits f (fin s n d)
+  equal-patterns : (s : Bool) (m : ℕ) (e : ℤ) (n : ℕ) (d : ℤ) → down d ≤ 2 ^ low f → m * up e * down d ≡ n * up d * down e
+      → toBits f (fin s m e) ≡ toBits f (fin s n d)
   equal-patterns s m e n d h g =
       let l = 2 ^ low f in
       let u = units-of f s n d h in

@@ -1,5 +1,5 @@
--- Fractions and whole numbers: `closest n u` is the whole number nearest to n / u, and of two that are as near the even one; and kept to p digits it is nearest among the numbers of p digits with zeros behind
--- them. Nothing here is about floats. Assumes nothing.
+-- Fractions and whole numbers: `closest n u` is the whole number nearest to n / u, and of two that are as near the even one; and kept to p digits it is
+-- nearest among the numbers of p digits with zeros behind them. Nothing here is about floats. Assumes nothing.
 use mathlib.Core.Path.{_≡_, refl, sym, ap, _∙_, subst}
 use mathlib.Core.Bool.{Bool, true, false, not}
 use mathlib.Core.Logic.{inl, inr}

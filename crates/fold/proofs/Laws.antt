@@ -45,7 +45,8 @@ unfolding hex-bytes
 hex-more [] b = refl
 hex-more (x ∷ xs) b = ap (λ (r : List ℕ). digits 16 2 x ++ r) (hex-more xs b) ∙ sym (append-assoc (digits 16 2 x) (hex-bytes xs) (digits 16 2 b))
 
-pub digits-more : (out bytes : List ℕ) (i p q : ℕ) → 2 * i + 1 < length out → i < length bytes → p ≡ glyph (getD bytes i 0 / 16 % 16) → q ≡ glyph (getD bytes i 0 % 16)
+pub digits-more : (out bytes : List ℕ) (i p q : ℕ) → 2 * i + 1 < length out → i < length bytes → p ≡ glyph (getD bytes i 0 / 16 % 16)
+    → q ≡ glyph (getD bytes i 0 % 16)
     → take (2 * i) out ≡ hex-bytes (take i bytes) → take (2 * (i + 1)) (set (set out (2 * i) p) (2 * i + 1) q) ≡ hex-bytes (take (i + 1) bytes)
 digits-more out bytes i p q h k ep eq e =
     ap (λ (n : ℕ). take n (set (set out (2 * i) p) (2 * i + 1) q)) (let z : 2 * (i + 1) ≡ 2 * i + 1 + 1 = omega arith in z)

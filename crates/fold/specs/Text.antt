@@ -1,5 +1,5 @@
--- What the program `fold` reads and writes, as lists of bytes: a chain is its links, "17 bytes a link"; indices are two hex digits each, the first index first, in the digits by which the kit's
--- `io` writes a number.
+-- What the program `fold` reads and writes, as lists of bytes: a chain is its links, "17 bytes a link"; indices are two hex digits each, the first index
+-- first, in the digits by which the kit's `io` writes a number.
 use Prim.Native.Nat.{ℕ, zero, suc, _/_}
 use mathlib.Core.Bool.{cond}
 use mathlib.Core.List.{List, [], _∷_, _++_}

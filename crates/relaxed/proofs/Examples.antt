@@ -47,8 +47,8 @@ pub sets-hold : map (λ (s : Set). s .values) sets ≡ map (λ (s : Set). s .exp
 unfolding bitwise inot lt eq ofBits toBits nanBits
 sets-hold = refl
 
--- four −128 here: −32768, which is the second choice's; beside it, in the same vector, −128·−127 twice: 32512, which is the first choice's; so no one choice gives this vector. In a 32-bit lane with
--- 1·−1 twice beside them −32770, which is not allowed (docs/DIFFERENCES.md)
+-- four −128 here: −32768, which is the second choice's; beside it, in the same vector, −128·−127 twice: 32512, which is the first choice's; so no one choice
+-- gives this vector. In a 32-bit lane with 1·−1 twice beside them −32770, which is not allowed (docs/DIFFERENCES.md)
 pub four : List Case
 unfolding extract dot binary extadd-pairwise
 four =

@@ -1,6 +1,6 @@
--- What the relaxed instructions give is what WebAssembly 3.0 allows (document 02, order 11). 3.0's choice is one for a whole instruction: the first choice serves every lane of every vector (`..-allowed`), of the
--- dots where no sum meets four −128. Of the 16-bit dot each lane, taken singly, is allowed with no exception (`dot-allowed-singly`). And a 16-bit dot whose second vector has lanes 0 to 127 lies within
--- −32512..32258 and never wraps. Assumes nothing.
+-- What the relaxed instructions give is what WebAssembly 3.0 allows (document 02, order 11). 3.0's choice is one for a whole instruction: the first choice
+-- serves every lane of every vector (`..-allowed`), of the dots where no sum meets four −128. Of the 16-bit dot each lane, taken singly, is allowed with no
+-- exception (`dot-allowed-singly`). And a 16-bit dot whose second vector has lanes 0 to 127 lies within −32512..32258 and never wraps. Assumes nothing.
 use mathlib.Core.Path.{_≡_, refl, sym, ap, ap₂, _∙_, subst⁻¹}
 use mathlib.Core.Bool.{Bool, true, false, cond, _&&_, _||_}
 use mathlib.Core.List.{List, [], _∷_, List·Memᴰ, List·Memᴰ·head, List·Memᴰ·tail}
@@ -86,7 +86,8 @@ unfolding swizzle unary
 swizzle-allowed x s i h =
     at-unary 8 refl i h (λ k. getD (lanes 8 x) k 0) (λ k l. element-below 256 (lanes 8 x) k (omega arith) (digits-below 8 16 x)) s ∙ named x (extract 8 s i)
 
-pub laneselect-allowed : (w : ℕ) → w * (128 / w) ≡ 128 → (x y m : ℕ) → ByChoice 0 w (relaxed-laneselect x y m) (λ i. selected w (extract w x i) (extract w y i) (extract w m i))
+pub laneselect-allowed : (w : ℕ) → w * (128 / w) ≡ 128 → (x y m : ℕ)
+    → ByChoice 0 w (relaxed-laneselect x y m) (λ i. selected w (extract w x i) (extract w y i) (extract w m i))
 laneselect-allowed w whole x y m i h = at-bitselect w whole i h x y m ∙ picked w (extract w x i) (extract w y i) (extract w m i) (lane-lt w x i) (lane-lt w y i)
 
 pub q15mulr-allowed : (x y : ℕ) → ByChoice 0 16 (relaxed-q15mulr x y) (λ i. multiplied (extract 16 x i) (extract 16 y i))
@@ -124,7 +125,8 @@ given-at : (x y i : ℕ) → i < 8 → extract 16 (relaxed-dot x y) i ≡ given 
 given-at x y i h = ap (λ (r : ℕ). extract 16 r i) (sym (dot-8 x y)) ∙ at-binary 16 refl i h given (λ a b p q. mod-lt _ (pow-pos 16)) x y
 
 -- a lane where the sum does not meet them is that of the first choice, of bytes read as signed
-signed-lane : (x y i : ℕ) → i < 8 → (Four (extract 16 x i) (extract 16 y i) → ⊥) → extract 16 (relaxed-dot x y) i ≡ value 0 (dots (extract 16 x i) (extract 16 y i))
+signed-lane : (x y i : ℕ) → i < 8 → (Four (extract 16 x i) (extract 16 y i) → ⊥)
+    → extract 16 (relaxed-dot x y) i ≡ value 0 (dots (extract 16 x i) (extract 16 y i))
 signed-lane x y i h apart = given-at x y i h ∙ as-signed (extract 16 x i) (extract 16 y i) (lane-lt 16 x i) (lane-lt 16 y i) apart
 
 -- one that meets them is that of the second
@@ -132,14 +134,16 @@ unsigned-lane : (x y i : ℕ) → i < 8 → Four (extract 16 x i) (extract 16 y 
 unsigned-lane x y i h four =
     given-at x y i h ∙ ap₂ given (four .0) (four .1) ∙ sym (ap₂ (λ (a b : ℕ). value 1 (dots a b)) (four .0) (four .1))
 
-pub dot-allowed : (x y : ℕ) → ((i : ℕ) → i < 8 → Four (extract 16 x i) (extract 16 y i) → ⊥) → ByChoice 0 16 (relaxed-dot x y) (λ i. dots (extract 16 x i) (extract 16 y i))
+pub dot-allowed : (x y : ℕ) → ((i : ℕ) → i < 8 → Four (extract 16 x i) (extract 16 y i) → ⊥)
+    → ByChoice 0 16 (relaxed-dot x y) (λ i. dots (extract 16 x i) (extract 16 y i))
 dot-allowed x y apart i h = signed-lane x y i h (apart i h)
 
 -- taken singly, every lane is one of the two, four −128 or not
 pub dot-allowed-singly : (x y i : ℕ) → i < 8 → List·Memᴰ (extract 16 (relaxed-dot x y) i) (dots (extract 16 x i) (extract 16 y i))
 dot-allowed-singly x y i h = by (eqb (extract 16 x i) 0x8080) (eqb (extract 16 y i) 0x8080) refl refl
   where
-    by : (s t : Bool) → eqb (extract 16 x i) 0x8080 ≡ s → eqb (extract 16 y i) 0x8080 ≡ t → List·Memᴰ (extract 16 (relaxed-dot x y) i) (dots (extract 16 x i) (extract 16 y i))
+    by : (s t : Bool) → eqb (extract 16 x i) 0x8080 ≡ s → eqb (extract 16 y i) 0x8080 ≡ t
+        → List·Memᴰ (extract 16 (relaxed-dot x y) i) (dots (extract 16 x i) (extract 16 y i))
     by true true e f = List·Memᴰ·tail (List·Memᴰ·head (unsigned-lane x y i h (eqb-true (extract 16 x i) 0x8080 e, eqb-true (extract 16 y i) 0x8080 f)))
     by true false e f = List·Memᴰ·head (signed-lane x y i h (λ four. eqb-false (extract 16 y i) 0x8080 f (four .1)))
     by false t e f = List·Memᴰ·head (signed-lane x y i h (λ four. eqb-false (extract 16 x i) 0x8080 e (four .0)))

@@ -1,5 +1,6 @@
 -- What WebAssembly 3.0 allows the relaxed instructions to give ("Relaxed Operations" of its numerics): a set of values for each lane. The set is the list of
--- what its parameters choose from, the plain operation's value first as there; of the NaNs that it leaves open only the canonical ones and the operands are listed, so the sets here are the smaller ones.
+-- what its parameters choose from, the plain operation's value first as there; of the NaNs that it leaves open only the canonical ones and the operands are
+-- listed, so the sets here are the smaller ones.
 use mathlib.Core.Path.{_≡_}
 use Prim.Native.Nat.{ℕ, _-_, _/_, _%_, _^_, _<_}
 use mathlib.Core.Bool.{cond, _&&_, _||_}
@@ -48,7 +49,8 @@ dots a b = dotted extend-s a b ∷ dotted extend-u a b ∷ []
 abbrev pub dots-added : ℕ → ℕ → ℕ → List ℕ
 dots-added a b c = dotted-added extend-s a b c ∷ dotted-added extend-u a b c ∷ []
 
--- A parameter is chosen once, so one choice holds for every lane of a vector: with choice c, counted from 0, lane i is value c of its set; a set of one value leaves nothing to choose.
+-- A parameter is chosen once, so one choice holds for every lane of a vector: with choice c, counted from 0, lane i is value c of its set; a set of one value
+-- leaves nothing to choose.
 abbrev pub value : ℕ → List ℕ → ℕ
 value c vs = getD vs c (getD vs 0 0)
 

@@ -1,5 +1,5 @@
--- Bytes of a step that no step reads: byte 7, the mark (document 01), and bytes 8 to 15 ("Bytes 8..11 are ignored", document 02, order 2; "12..15 ignored", document 01). Two lists that differ there
--- alone have the same run, from any place under any limit. Of the definition's runs. Assumes nothing.
+-- Bytes of a step that no step reads: byte 7, the mark (document 01), and bytes 8 to 15 ("Bytes 8..11 are ignored", document 02, order 2; "12..15 ignored",
+-- document 01). Two lists that differ there alone have the same run, from any place under any limit. Of the definition's runs. Assumes nothing.
 use mathlib.Core.Path.{_≡_, refl, _∙_, ap, sym}
 use mathlib.Core.List.{List, _++_}
 use Prim.Native.Nat.{ℕ, zero, suc, _+_, _-_, _*_, _/_, _%_, _<_, _≤_}

@@ -1,6 +1,6 @@
--- The number beside a register (document 02, order 1: "the number of the step that last wrote it in this run, 1 to 256, or 0 if none"), of every register after every run from the list's start that is not
--- refused, under any limit: it is at most the count of steps done, so at most 256; number k above 0 means that step k wrote the register and that no step done after it did; 0 that no step done did. Of the
--- definition's runs. Assumes nothing.
+-- The number beside a register (document 02, order 1: "the number of the step that last wrote it in this run, 1 to 256, or 0 if none"), of every register
+-- after every run from the list's start that is not refused, under any limit: it is at most the count of steps done, so at most 256; number k above 0 means
+-- that step k wrote the register and that no step done after it did; 0 that no step done did. Of the definition's runs. Assumes nothing.
 use mathlib.Core.Path.{_≡_, refl, _∙_, ap, sym, subst}
 use mathlib.Core.Bool.{Bool, true, false, cond, _&&_}
 use mathlib.Core.Logic.{_⊎_, inl, inr, ⊎-elim}
@@ -54,7 +54,8 @@ record Numbered (r place : ℕ) (s ws vs : List ℕ) : Type 0 where
   long : length vs ≡ length ws
   here : getD vs r 0 ≡ cond (writes r s) (suc place) (getD ws r 0)
 
-put : (r place : ℕ) (s ws : List ℕ) → r < length ws → (v : Bool) (vs : List ℕ) → profile (instruction (operation s)) .gives-vector ≡ v → vs ≡ cond v (set ws (destination s) (suc place)) ws → Numbered r place s ws vs
+put : (r place : ℕ) (s ws : List ℕ) → r < length ws → (v : Bool) (vs : List ℕ) → profile (instruction (operation s)) .gives-vector ≡ v
+    → vs ≡ cond v (set ws (destination s) (suc place)) ws → Numbered r place s ws vs
 put r place s ws h false vs p e = record { long = ap length e; here = ap (λ (l : List ℕ). getD l r 0) e ∙ rw p }
 put r place s ws h true vs p e =
     record { long = ap length e ∙ length-set ws (destination s) (suc place); here = ap (λ (l : List ℕ). getD l r 0) e ∙ rw p (by (eqb (destination s) r) refl) }
@@ -63,11 +64,14 @@ put r place s ws h true vs p e =
     by true q = let d = eqb-true (destination s) r q in rw d (getD-set-same ws r (suc place) 0 h)
     by false q = getD-set-other ws (destination s) r (suc place) 0 (λ e. eqb-false (destination s) r q (sym e))
 
-numbered : (r place : ℕ) (m next : Machine) (s : List ℕ) → r < length (m .writers) → step place m s ≡ given next → Numbered r place s (m .writers) (next .writers)
+numbered : (r place : ℕ) (m next : Machine) (s : List ℕ) → r < length (m .writers) → step place m s ≡ given next
+    → Numbered r place s (m .writers) (next .writers)
 unfolding step
 numbered r place m next s h e = by (eqb (refusal (profile (instruction (operation s))) (m .kind) s) 0) e
   where
-    by : (t : Bool) → cond t (given (effect (instruction (operation s)) place m s)) (refused (refusal (profile (instruction (operation s))) (m .kind) s)) ≡ given next → Numbered r place s (m .writers) (next .writers)
+    by : (t : Bool)
+        → cond t (given (effect (instruction (operation s)) place m s)) (refused (refusal (profile (instruction (operation s))) (m .kind) s)) ≡ given next
+        → Numbered r place s (m .writers) (next .writers)
     by true g =
         let q : effect (instruction (operation s)) place m s ≡ next = cc in
         put r place s (m .writers) h (profile (instruction (operation s)) .gives-vector) (next .writers) refl
@@ -119,7 +123,8 @@ next-part : (part : List ℕ) (i : ℕ) → part-at (drop 32 part) i ≡ part-at
 next-part part i = ap (take 32) (drop-drop (32 * i) 32 part ∙ ap (λ (k : ℕ). drop k part) (let e : 32 + 32 * i ≡ 32 * suc i = omega arith in e))
 
 module _ (r place done : ℕ) (part : List ℕ) where
-  first : (f : Bool) → writes r (take 32 part) ≡ f → (v n : ℕ) → Kept r done (drop 32 part) (cond f (suc place) n) v → Kept r (suc done) part n v ⊎ Set r (suc done) place part v
+  first : (f : Bool) → writes r (take 32 part) ≡ f → (v n : ℕ) → Kept r done (drop 32 part) (cond f (suc place) n) v
+      → Kept r (suc done) part n v ⊎ Set r (suc done) place part v
   first false e v n k = inl (record { same = k .same; none = none })
     where
       none : (i : ℕ) → i < suc done → writes r (part-at part i) ≡ false
@@ -145,7 +150,8 @@ module _ (r place done : ℕ) (part : List ℕ) where
       later zero l h = absurd (omega arith)
       later (suc j) l h = ap (writes r) (sym (next-part part j)) ∙ s .none-after j (omega arith) (omega arith)
 
-kept-or-set : (r done place : ℕ) (part : List ℕ) (n : ℕ) → Kept r done part n (number-after r done place part n) ⊎ Set r done place part (number-after r done place part n)
+kept-or-set : (r done place : ℕ) (part : List ℕ) (n : ℕ)
+    → Kept r done part n (number-after r done place part n) ⊎ Set r done place part (number-after r done place part n)
 kept-or-set r zero place part n = inl (record { same = refl; none = λ i h. absurd (not-suc-le-zero h) })
 kept-or-set r (suc done) place part n =
     ⊎-elim (first r place done part (writes r (take 32 part)) refl _ n) (λ s. inr (further r place done part _ s)) (kept-or-set r done (suc place) (drop 32 part) (cond (writes r (take 32 part)) (suc place) n))
