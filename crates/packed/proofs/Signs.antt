@@ -10,7 +10,7 @@ use lib.Dec.{ltb, lit<}
 use lib.IntN.{pos, _-ℤ_}
 use lib.Signed.{nonNeg}
 use lib.Pow.{pow-pos, pow-mono, shl-lt, shr-lt, shr-shr, field}
-use lib.Bits.{bitAnd, bitOr, and-le-r, and-mask, or-shifted-r}
+use lib.Bits.{bitAnd, bitOr, and-mask, or-shifted-r}
 use lib.ListN.{length-map}
 use Rattle.standard.specs.Lanes.{digits, joined}
 use Rattle.standard.specs.Integer.{signed}
@@ -72,9 +72,9 @@ abbrev pub gathered : ℕ → ℕ → ℕ → ℕ
 gathered v zero a = bitAnd (a / 2 ^ v) 1
 gathered v (suc n) a = bitOr (gathered v n a) (bitAnd (a / 2 ^ ((1 + v) * suc n + v)) 1 * 2 ^ suc n % 2 ^ 32)
 
--- one bit of a half is a number of 32 bits
-pub one-bit : (n : ℕ) → bitAnd n 1 < 2 ^ 32
-one-bit n = omega (arith, and-le-r n 1)
+-- the lowest bit of a number
+pub lowest : (n : ℕ) → bitAnd n 1 ≡ n % 2
+lowest n = and-mask n 1
 
 shifted : (b n : ℕ) → n < 32 → b % 2 * 2 ^ n % 2 ^ 32 ≡ b % 2 * 2 ^ n
 shifted b n h =
@@ -82,8 +82,8 @@ shifted b n h =
     mod-eq-of-lt (lt-of-lt-of-le (shl-lt 1 n (mod-lt b (lit< tt))) (pow-mono held))
 
 pub gathered-is : (v n a : ℕ) → n < 32 → gathered v n a ≡ signs (1 + v) (suc n) a
-gathered-is v zero a h = and-mask (a / 2 ^ v) 1 ∙ sym (low-sign v a) ∙ omega arith
+gathered-is v zero a h = lowest (a / 2 ^ v) ∙ sym (low-sign v a) ∙ omega arith
 gathered-is v (suc n) a h =
-    rw (gathered-is v n a (omega arith), and-mask (a / 2 ^ ((1 + v) * suc n + v)) 1, shifted (a / 2 ^ ((1 + v) * suc n + v)) (suc n) h)
+    rw (gathered-is v n a (omega arith), lowest (a / 2 ^ ((1 + v) * suc n + v)), shifted (a / 2 ^ ((1 + v) * suc n + v)) (suc n) h)
     (or-shifted-r (a / 2 ^ ((1 + v) * suc n + v) % 2) (suc n) (signs (1 + v) (suc n) a) (signs-below (1 + v) (suc n) a)
     ∙ add-comm (a / 2 ^ ((1 + v) * suc n + v) % 2 * 2 ^ suc n) (signs (1 + v) (suc n) a) ∙ sym (one-more v (suc n) a))

@@ -1,8 +1,8 @@
 -- `packed_reduce::bitmask8` meets its contract: the sign bits of 8 lanes of 8 bits, from the low end. Assumes nothing.
-use Prim.Native.Nat.{_/_, _^_}
+use borrow.Author.Needs.{needs}
 use lib.Dec.{lit<}
 use Rattle.packed.specs.Half.{half-bitmask}
-use Rattle.packed.proofs.Signs.{gathered-is, one-bit}
+use Rattle.packed.proofs.Signs.{gathered-is, lowest}
 use Rattle.packed_reduce.proofs.bitmask8.Statement.{statement}
 use Rattle.packed_reduce.proofs.bitmask8.Tie as tie
 
@@ -14,12 +14,6 @@ pub bitmask8-spec : {M : Type 1} → statement M
 bitmask8-spec =
     tie.close
     (tie.spec
-    (λ c. record { fits = one-bit (c .args .a / 2 ^ 7) })
-    (λ c. record { fits = one-bit (c .args .a / 2 ^ 15) })
-    (λ c. record { fits = one-bit (c .args .a / 2 ^ 23) })
-    (λ c. record { fits = one-bit (c .args .a / 2 ^ 31) })
-    (λ c. record { fits = one-bit (c .args .a / 2 ^ 39) })
-    (λ c. record { fits = one-bit (c .args .a / 2 ^ 47) })
-    (λ c. record { fits = one-bit (c .args .a / 2 ^ 55) })
-    (λ c. record { fits = one-bit (c .args .a / 2 ^ 63) })
+    (λ c. rw lowest (search needs)) (λ c. rw lowest (search needs)) (λ c. rw lowest (search needs)) (λ c. rw lowest (search needs))
+    (λ c. rw lowest (search needs)) (λ c. rw lowest (search needs)) (λ c. rw lowest (search needs)) (λ c. rw lowest (search needs))
     returns)
