@@ -7,7 +7,6 @@ use Prim.Native.Nat.{ℕ, zero, suc, _+_, _<_, _≤_}
 use native.Mathlib.Nat.{not-suc-le-zero, le-of-suc-le-suc}
 use native.Mathlib.Numerals.{add-one}
 use native.Mathlib.Omega.{arith}
-use borrow.Author.Tests.{lt-ltb, le-ltb}
 use lib.Dec.{T, ltb}
 use lib.ListN.{length, getD, drop, drop-of-length-le}
 use Rattle.standard.specs.Refusal.{legal}
@@ -59,15 +58,6 @@ pub turned : (b c : Bool) → not b ≡ c → b ≡ not c
 turned true c e = ap not e
 turned false c e = ap not e
 
-pub too-many : (links : List (List ℕ)) → 16 < length links → 18 ≡ refusal links
-too-many links h = sym (ap (λ (b : Bool). cond b 18 (cond (all-legal links) 0 5)) (lt-ltb 16 (length links) h))
-
-by-legal : (links : List (List ℕ)) → length links ≤ 16 → (b : Bool) → all-legal links ≡ b → cond b 0 5 ≡ refusal links
-by-legal links h b e =
-    sym (ap (λ (t : Bool). cond t 18 (cond (all-legal links) 0 5)) (le-ltb 16 (length links) h) ∙ ap (λ (t : Bool). cond t 0 5) e)
-
-pub index-above : (links : List (List ℕ)) → length links ≤ 16 → all-legal links ≡ false → 5 ≡ refusal links
-index-above links h e = by-legal links h false e
-
-pub passed : (links : List (List ℕ)) (k : ℕ) → length links ≤ 16 → length links ≤ k → all-legal (drop k links) ≡ all-legal links → 0 ≡ refusal links
-passed links k h over e = by-legal links h true (sym e ∙ ap all-legal (drop-of-length-le links over))
+-- all links are legal where those before the end are
+pub through : (links : List (List ℕ)) (k : ℕ) → length links ≤ k → all-legal (drop k links) ≡ all-legal links → all-legal links ≡ true
+through links k over e = sym e ∙ ap all-legal (drop-of-length-le links over)

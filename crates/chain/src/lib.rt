@@ -1,10 +1,12 @@
 // Chains of shuffles (document 02, order 13): a chain folded into one list of sixteen indices. A link is lent as its seventeen bytes, its partner and its sixteen
 // indices, so that every value of it has a meaning.
 ghost use mathlib.Core.Path.{_≡_};
+ghost use mathlib.Core.Bool.{cond};
 ghost use mathlib.Core.List.{_++_, map};
 ghost use Prim.Native.Nat.{_%_};
+ghost use lib.Dec.{ltb};
 ghost use lib.ListN.{length, getD};
-ghost use Rattle.chain.specs.Definition.{indices, partner, refusal, counted, folded, left, OneShuffle};
+ghost use Rattle.chain.specs.Definition.{indices, partner, all-legal, refusal, counted, folded, left, OneShuffle};
 use reorder::all_legal;
 use reorder::beside;
 use reorder::picked;
@@ -59,19 +61,29 @@ pub fn indices_of(link: [u8; 17]) -> [u8; 16]
     ]
 }
 
-// 0, or the number of the chain's refusal.
-pub fn judge(links: &[[u8; 17]]) -> u8
-    ensures { λ r. ⌜ r ≡ refusal (now (links .entry)) ⌝ }
+// Each test says what the later ones say where it passes.
+fn few(links: usize, later: u8) -> u8
+    ensures { λ r. ⌜ r ≡ cond (ltb 16 links) 18 later ⌝ }
 {
-    if links.len() > 16 {
-        return LINKS;
-    }
+    if links > 16 { LINKS } else { later }
+}
+
+fn legal(links: &[[u8; 17]], later: u8) -> u8
+    ensures { λ r. ⌜ r ≡ cond (all-legal (now (links .entry))) later 5 ⌝ }
+{
     for k in 0..links.len() {
         if !all_legal(indices_of(links[k])) {
             return INDEX;
         }
     }
-    0
+    later
+}
+
+// 0, or the number of the chain's refusal.
+pub fn judge(links: &[[u8; 17]]) -> u8
+    ensures { λ r. ⌜ r ≡ refusal (now (links .entry)) ⌝ }
+{
+    few(links.len(), legal(links, 0))
 }
 
 fn partner_of(n: u8, current: [u8; 16]) -> [u8; 16]

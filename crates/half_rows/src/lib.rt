@@ -81,5 +81,5 @@ pub fn i8x16_popcnt(first: &mut [u64]) -> u8
         first[i] = popcnt8(first[i]);
         i += 1;
     }
-    0
+    odd
 }

@@ -54,8 +54,9 @@ same-length c = c .before .loop .inv .1 .0
 
 returns-2 : tie.Need-returns-2 Inv-loop μ-loop
 returns-2 c =
-    let unrefused = sym (c .before .before .before .judge .ensures) ∙ c .before .before .if1 .left in
-    (sym unrefused, all-counted _ _ (c .before .loop .i) (fits _ _ unrefused .1) (search needs) (c .before .loop .inv))
+    let judged = c .before .before .before .judge .ensures in
+    let unrefused = c .before .before .if1 .left in
+    (judged, rw unrefused (all-counted _ _ (c .before .loop .i) (fits _ _ (sym judged ∙ unrefused) .1) (search needs) (c .before .loop .inv)))
 
 pub i8x16-popcnt-spec : {M : Type 1} → statement M
 i8x16-popcnt-spec =

@@ -11,15 +11,15 @@ use Rattle.mending_rules.specs.Definition.{Mending, mending}
 use Rattle.mending.proofs.mend.Statement.{statement}
 use Rattle.mending.proofs.mend.Tie as tie
 
-is-whole : (c : tie.Else1) → whole-blocks (length (now (c .before .before .before .before .args .file))) ≡ true
-is-whole c = sym (c .before .is-whole .ensures) ∙ not-false (c .before .is-whole .result) (c .if1 .left)
-
 returns : tie.Need-returns
 unfolding mending
 returns c =
     let k = c .before .before in
     let e = sym (k .is-whole .ensures) ∙ not-true (k .is-whole .result) (c .before .if1 .taken) in
     rw e (ap (λ (m : Mending). (m, now (k .before .before .before .args .out))) (c .refusal .ensures))
+
+is-whole : (c : tie.Else1) → whole-blocks (length (now (c .before .before .before .before .args .file))) ≡ true
+is-whole c = sym (c .before .is-whole .ensures) ∙ not-false (c .before .is-whole .result) (c .if1 .left)
 
 returns-2 : tie.Need-returns-2
 unfolding mending

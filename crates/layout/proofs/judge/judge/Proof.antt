@@ -34,14 +34,14 @@ module _ (file : List ℕ) where
 is-whole : (c : tie.Else1) → whole-blocks (length (now (c .before .before .before .args .file))) ≡ true
 is-whole c = sym (c .before .is-whole .ensures) ∙ not-false (c .before .is-whole .result) (c .if1 .left)
 
-are-right : (c : tie.Else2) → each-below (blocks (now (c .before .before .before .before .before .args .file))) (right-block (now (c .before .before .before .before .before .args .file))) ≡ true
-are-right c = sym (c .before .all-right .ensures) ∙ not-false (c .before .all-right .result) (c .if2 .left)
-
 returns : tie.Need-returns
 returns c = not-whole _ (sym (c .before .is-whole .ensures) ∙ not-true (c .before .is-whole .result) (c .if1 .taken))
 
 returns-2 : tie.Need-returns-2
 returns-2 c = not-right _ (is-whole (c .before .before)) (sym (c .before .all-right .ensures) ∙ not-true (c .before .all-right .result) (c .if2 .taken))
+
+are-right : (c : tie.Else2) → each-below (blocks (now (c .before .before .before .before .before .args .file))) (right-block (now (c .before .before .before .before .before .args .file))) ≡ true
+are-right c = sym (c .before .all-right .ensures) ∙ not-false (c .before .all-right .result) (c .if2 .left)
 
 returns-3 : tie.Need-returns-3
 returns-3 c =
