@@ -1,0 +1,5 @@
+pub mod Eight
+pub mod Shares
+pub mod Table
+pub mod Sums
+pub mod Coincide

@@ -1,0 +1,6 @@
+pub mod Examples
+pub mod Bits
+pub mod Distance
+pub mod Positions
+pub mod Refusals
+pub mod Theorems
