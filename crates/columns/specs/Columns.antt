@@ -1,14 +1,12 @@
--- Columns: the distances of the eight windows that begin in one byte, a lane of 8 bits for each, as the sum of one entry from each of five columns. A window that
--- begins r bits after a byte's top stands over five bytes; a column has an entry for each value of one of them.
-use Prim.Native.Nat.{ℕ, zero, suc, _+_, _-_, _*_, _/_, _%_, _^_, _<_, _≤_}
+-- Columns: in how many bits a byte differs from a marker, for the eight windows that begin in one byte, a lane of 8 bits for each. A window that begins r bits
+-- after a byte's top stands over five bytes; a column has an entry for each value of one of them.
+use Prim.Native.Nat.{ℕ, zero, suc, _+_, _-_, _*_, _/_, _%_, _^_, _<_}
 use mathlib.Core.Path.{_≡_}
 use mathlib.Core.List.{List, [], _∷_}
-use mathlib.Core.Logic.{_⊎_}
 use lib.Bits.{bitAnd, bitXor}
 use lib.Count.{ones}
 use lib.ListN.{length, getD}
 use Rattle.standard.specs.Lanes.{joined}
-use Rattle.windows.specs.Definition.{bits, mark, window, distance}
 
 -- f of n numbers from k on.
 unfoldable pub row : (ℕ → ℕ) → ℕ → ℕ → List ℕ
@@ -42,18 +40,3 @@ Made m t table i = (length table ≡ 1280) × ((j : ℕ) → j < i → getD tabl
 
 abbrev pub Columns : ℕ → ℕ → List ℕ → Type 0
 Columns m t table = Made m t table 1280
-
-abbrev pub away : List ℕ → ℕ → ℕ → ℕ
-away buffer m p = distance (window (bits buffer) p) (mark m)
-
--- Every window that begins in the bytes from one place to another differs from the marker in more than t bits.
-abbrev pub Far : List ℕ → ℕ → ℕ → ℕ → ℕ → Type 0
-Far buffer m t from to = (p : ℕ) → 8 * from ≤ p → p < 8 * to → t < away buffer m p
-
--- r is the first byte from a byte on, below an end, in which a window begins that is within the tolerance; the end, or the first byte without four after it,
--- where there is none.
-pub record Next (buffer : List ℕ) (m t from end r : ℕ) : Type 0 where
-  pub reached : from ≤ r
-  pub inside : (r ≡ from) ⊎ ((r ≤ end) × (r + 4 ≤ length buffer))
-  pub far : Far buffer m t from r
-  pub near : r < end → r + 5 ≤ length buffer → Far buffer m t r (r + 1) → ⊥

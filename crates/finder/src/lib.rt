@@ -5,27 +5,12 @@ ghost use mathlib.Core.Path.{_≡_};
 ghost use mathlib.Core.Bool.{false};
 ghost use lib.ListN.{length, take, drop};
 ghost use Rattle.windows.specs.Definition.{binary, bits, mark, window, distance, first-from, find};
-ghost use Rattle.finder.specs.Answer.{answer-of};
-
-// "none": no position has both windows inside the buffer and within the tolerance.
-const NONE: u8 = 11;
+ghost use Rattle.windows.specs.Answer.{answer-of};
+pub use windows::Answer;
 
 // How many positions are searched by words before columns are made, which costs as much as 700 of them: a short buffer, or a match that stands early, waits for
 // none.
 const EARLY: usize = 9216;
-
-// Where the marker stands, with the distances of the window there and of the one a frame later; or the number of a refusal.
-pub enum Answer {
-    Found(usize, u32, u32),
-    Refused(u8),
-}
-
-// A byte as a word, its top bit above the others.
-fn wide(byte: u8) -> u64
-    ensures { λ r. ⌜ r ≡ byte ⌝ }
-{
-    byte as u64
-}
 
 // The number of the 64 bits from a byte on.
 fn word_at(buffer: &[u8], at: usize) -> u64
@@ -34,7 +19,7 @@ fn word_at(buffer: &[u8], at: usize) -> u64
 {
     let mut word: u64 = 0;
     for i in 0..8 {
-        word = word * 256 + wide(buffer[at + i]);
+        word = word * 256 + windows::wide(buffer[at + i]);
     }
     word
 }
@@ -84,12 +69,13 @@ fn among(
         let first = apart(here, k, marker);
         if first <= tolerance {
             let second = apart(later, start + k, marker);
-            if second <= tolerance {
-                return Answer::Found(8 * at + k, first, second);
-            }
+            let answer = windows::judged(8 * at + k, first, second, tolerance);
+            let Answer::Refused(_) = answer else {
+                return answer;
+            };
         }
     }
-    Answer::Refused(NONE)
+    Answer::Refused(windows::NONE)
 }
 
 // The search among positions from a byte on, sixteen at a time.
@@ -157,13 +143,13 @@ fn by_columns(
 {
     let table = columns::columns(marker, tolerance);
     let end = from + count / 8;
-    let mut at = columns::next(buffer, from, end, &table);
+    let mut at = passing::next(buffer, from, end, &table);
     while at < end {
         let answer = among(buffer, at, 8, marker, tolerance, frame);
         let Answer::Refused(_) = answer else {
             return answer;
         };
-        at = columns::next(buffer, at + 1, end, &table);
+        at = passing::next(buffer, at + 1, end, &table);
     }
     among(buffer, end, count % 8, marker, tolerance, frame)
 }

@@ -1,11 +1,11 @@
 -- The definition's search, position by position and in parts. Assumes nothing.
 use mathlib.Core.Path.{_≡_, refl, sym, ap, ap₂, _∙_}
-use mathlib.Core.Bool.{Bool, true, false, and-false}
+use mathlib.Core.Bool.{Bool, true, false, cond, _&&_}
 use mathlib.Core.List.{List}
 use Prim.Native.Nat.{ℕ, zero, suc, _+_, _-_, _<_, _≤_, suc-le-suc}
 use native.Mathlib.Nat.{add-zero, zero-add, suc-add, zero-lt-suc}
 use native.Mathlib.Omega.{arith}
-use borrow.Author.Tests.{le-leb, lt-leb}
+use borrow.Author.Tests.{lt-leb}
 use lib.Dec.{leb}
 use Rattle.windows.specs.Definition.{window, distance, Answer, found, refused, stands, first-from}
 
@@ -18,27 +18,14 @@ module _ (stream m : List ℕ) (t L : ℕ) where
   abbrev pub away : ℕ → ℕ
   away p = distance (window stream p) m
 
-  -- a position that is passed over: the window there is too far from the marker, or the one a frame later
+  -- a position that is passed over: the window there is too far from the marker
   pub far : {d : ℕ} (p : ℕ) → d ≡ away p → t < d → stands stream m t L p ≡ false
   far p e h = rw (lt-leb (away p) t (rw e at h))
 
-  pub far-later : {d : ℕ} (p : ℕ) → d ≡ away (p + L) → t < d → stands stream m t L p ≡ false
-  far-later p e h = rw (lt-leb (away (p + L)) t (rw e at h)) (and-false (leb (away p) t))
-
-  -- A search that has come to the k-th of c positions from p on: it goes on, or it ends here.
-  module _ {a : Answer} (c k p : ℕ) (h : k < c) (reached : a ≡ first-from stream m t L (c - k) (p + k)) where
-    left : c - k ≡ suc (c - (k + 1))
-    left = omega arith
-
-    pub goes-on : stands stream m t L (p + k) ≡ false → a ≡ first-from stream m t L (c - (k + 1)) (p + (k + 1))
-    unfolding first-from
-    goes-on e =
-        let next : p + k + 1 ≡ p + (k + 1) = omega arith in
-        reached ∙ rw (left, e, next)
-
-    pub ends : {d f : ℕ} → d ≡ away (p + k) → f ≡ away (p + k + L) → d ≤ t → f ≤ t → found (p + k) d f ≡ a
-    unfolding first-from
-    ends ed ef hd hf = sym (reached ∙ rw (left, le-leb (away (p + k)) t (rw ed at hd), le-leb (away (p + k + L)) t (rw ef at hf), ed, ef))
+  -- one position, judged by its two distances
+  pub one : {d e : ℕ} (p : ℕ) → d ≡ away p → e ≡ away (p + L) → cond (leb d t && leb e t) (found p d e) (refused 11) ≡ first-from stream m t L 1 p
+  unfolding first-from
+  one p ed ee = rw (ed, ee)
 
   -- the first c positions, then the n after them
   pub parts : (c n p : ℕ) → first-from stream m t L (c + n) p ≡ or-else (first-from stream m t L c p) (first-from stream m t L n (p + c))

@@ -1,11 +1,12 @@
 // What the marker finder is made of (document 02, order 5): its definition (specs/), the laws of windows and distances (proofs/), and the code that needs only
-// those: the distance of two words, and what is refused before the search.
+// those: the distance of two words, what a position gives, and what is refused before the search.
 ghost use Prim.Native.Nat.{_+_};
 ghost use mathlib.Core.Path.{_≡_};
-ghost use mathlib.Core.Bool.{cond};
-ghost use lib.Dec.{ltb};
+ghost use mathlib.Core.Bool.{cond, _&&_};
+ghost use lib.Dec.{ltb, leb};
 ghost use lib.ListN as List;
-ghost use Rattle.windows.specs.Definition.{binary, bits, mark, distance, refusal};
+ghost use Rattle.windows.specs.Definition.{binary, bits, mark, distance, found, refused, refusal};
+ghost use Rattle.windows.specs.Answer.{answer-of};
 
 // "tolerance above 8"
 const TOLERANCE: u8 = 8;
@@ -16,11 +17,38 @@ const LENGTH: u8 = 9;
 // "buffer above 65,536 bytes or shorter than L + 32 bits"
 const BUFFER: u8 = 10;
 
+// "none": no position has both windows inside the buffer and within the tolerance.
+pub const NONE: u8 = 11;
+
+// Where the marker stands, with the distances of the window there and of the one a frame later; or the number of a refusal.
+pub enum Answer {
+    Found(usize, u32, u32),
+    Refused(u8),
+}
+
+// A byte as a word, its top bit above the others.
+pub fn wide(byte: u8) -> u64
+    ensures { λ r. ⌜ r ≡ byte ⌝ }
+{
+    byte as u64
+}
+
 // In how many bits a word differs from the marker, in the form that document 01 names.
 pub fn apart(seen: u32, marker: u32) -> u32
     ensures { λ r. ⌜ r ≡ distance (binary 32 seen) (mark marker) ⌝ }
 {
     u32::count_ones(seen ^ marker)
+}
+
+// What a position gives, by the distances of its window and of the one a frame later.
+pub fn judged(position: usize, first: u32, second: u32, tolerance: u32) -> Answer
+    ensures { λ r. ⌜ answer-of r ≡ cond (leb first tolerance && leb second tolerance) (found position first second) (refused 11) ⌝ }
+{
+    if (first <= tolerance) & (second <= tolerance) {
+        Answer::Found(position, first, second)
+    } else {
+        Answer::Refused(NONE)
+    }
 }
 
 // The number of a refusal where it holds, else what the later ones give.

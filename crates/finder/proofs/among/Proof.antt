@@ -6,7 +6,7 @@ use native.Mathlib.Omega.{arith}
 use borrow.Author.Needs.{needs}
 use Rattle.windows.specs.Definition.{binary, bits, mark, window, distance, first-from}
 use Rattle.windows.proofs.Distance.{distance-inside}
-use Rattle.windows.proofs.Positions.{far, far-later, goes-on, ends}
+use Rattle.windows.proofs.Positions.{far, none, one, among-the-first, passed}
 use Rattle.finder.proofs.among.Statement.{statement}
 use Rattle.finder.proofs.among.Tie as tie
 
@@ -70,11 +70,20 @@ add-apart c = search needs
 apart-requires-2 : tie.Need-apart-requires-2 Inv-loop μ-loop
 apart-requires-2 c κs = search needs
 
-mul-t21 : tie.Need-mul-t21 Inv-loop μ-loop
-mul-t21 c = search needs
+mul-judged : tie.Need-mul-judged Inv-loop μ-loop
+mul-judged c = search needs
 
-add-t22 : tie.Need-add-t22 Inv-loop μ-loop
-add-t22 c = search needs
+add-judged : tie.Need-add-judged Inv-loop μ-loop
+add-judged c = search needs
+
+judged-requires : tie.Need-judged-requires Inv-loop μ-loop
+judged-requires c κs = search needs
+
+enum-told : tie.Need-enum-told Inv-loop μ-loop
+enum-told c = search needs
+
+enum-told-2 : tie.Need-enum-told-2 Inv-loop μ-loop
+enum-told-2 c = search needs
 
 -- the distances that are taken from the two words are those in the buffer
 first : (c : tie.After-apart Inv-loop μ-loop)
@@ -101,10 +110,12 @@ second c e =
 
 returns : tie.Need-returns Inv-loop μ-loop
 returns c =
-    let given = c .before .before .before .before .before .before .before .before .before .args in
-    let loop = c .before .before .before .before .before .loop in
-    ends (bits (given .buffer .now)) (mark (given .marker)) (given .tolerance) (given .frame) (given .count) (loop .k) (8 * given .at) (omega arith) (loop .inv .1)
-    (first (c .before .before .before)) (second (c .before .before .before) (c .before .apart2 .ensures)) (omega arith) (omega arith)
+    let given = c .before .before .before .before .before .before .before .before .before .before .before .args in
+    let loop = c .before .before .before .before .before .before .before .loop in
+    let apart = c .before .before .before .before .before in
+    let told = c .enum-told2 .given .1 in
+    let here = c .before .before .judged .ensures ∙ one (bits (given .buffer .now)) (mark (given .marker)) (given .tolerance) (given .frame) (8 * given .at + loop .k) (first apart) (second apart (c .before .before .before .apart2 .ensures)) in
+    rw told (among-the-first _ _ _ _ 1 (given .count - loop .k) (8 * given .at + loop .k) (omega arith) (rw told at here) ∙ sym (loop .inv .1))
 
 add-k : tie.Need-add-k Inv-loop μ-loop
 add-k c = search needs
@@ -116,11 +127,13 @@ loop-again : tie.Need-loop-again Inv-loop μ-loop
 loop-again c =
     let given = c .before .before .before .before .before .before .before .args in
     let k = c .before .before .before .loop .k in
-    let reached = c .before .before .before .loop .inv .1 in
-    let on = goes-on (bits (given .buffer .now)) (mark (given .marker)) (given .tolerance) (given .frame) (given .count) k (8 * given .at) (omega arith) reached in (
+    let left : given .count - k - 1 ≡ given .count - (k + 1) = omega arith in
+    let next : 8 * given .at + k + 1 ≡ 8 * given .at + (k + 1) = omega arith in
+    let on = passed _ _ _ _ 1 (given .count - k) (8 * given .at + k) (omega arith) left next (c .before .before .before .loop .inv .1) in (
       search needs,
-      ⊎-elim (λ w. on (far-later _ _ _ _ (8 * given .at + k) (second (c .before) (w .1 .ensures)) (omega (arith, w .2))))
-          (λ w. on (far _ _ _ _ (8 * given .at + k) (first (c .before)) (omega (arith, w)))) (c .if1 .came),
+      ⊎-elim
+          (λ w. on (w .4 .given .0 .0) (rw (w .4 .given .1) at (w .2 .ensures ∙ one (bits (given .buffer .now)) (mark (given .marker)) (given .tolerance) (given .frame) (8 * given .at + k) (first (c .before)) (second (c .before) (w .1 .ensures)))))
+          (λ w. on 11 (sym (none _ _ _ _ 1 (8 * given .at + k) (λ j h. let here : 8 * given .at + k + j ≡ 8 * given .at + k = omega arith in rw here (far _ _ _ _ (8 * given .at + k) (first (c .before)) (omega (arith, w))))))) (c .if1 .came),
     )
 
 returns-2 : tie.Need-returns-2 Inv-loop μ-loop
@@ -152,8 +165,11 @@ among-spec =
     apart-requires
     add-apart
     apart-requires-2
-    mul-t21
-    add-t22
+    mul-judged
+    add-judged
+    judged-requires
+    enum-told
+    enum-told-2
     returns
     add-k
     loop-less

@@ -7,7 +7,7 @@ use native.Mathlib.Omega.{arith}
 use borrow.Author.Needs.{needs}
 use Rattle.windows.specs.Definition.{bits, mark, Answer, first-from}
 use Rattle.windows.proofs.Positions.{far, none, among-the-first, passed}
-use Rattle.columns.specs.Columns.{Far, Next}
+use Rattle.passing.specs.Next.{Far, Next}
 use Rattle.finder.proofs.by_columns.Statement.{statement}
 use Rattle.finder.proofs.by_columns.Tie as tie
 

@@ -1,4 +1,4 @@
--- `columns::passes` meets its contract: every top bit is left exactly where each window passed is too far. Assumes nothing.
+-- `passing::passes` meets its contract: every top bit is left exactly where each window passed is too far. Assumes nothing.
 use Prim.Native.Nat.{ℕ, _+_, _-_, _^_, _<_, _≤_}
 use mathlib.Core.Path.{_≡_, refl}
 use mathlib.Core.Bool.{false≢true}
@@ -6,10 +6,11 @@ use native.Mathlib.Omega.{arith}
 use borrow.Author.Needs.{needs}
 use borrow.Author.Tests.{eqb-true, eq-eqb}
 use lib.Bits.{and-le-l}
-use Rattle.columns.specs.Columns.{Columns, Far}
-use Rattle.columns.proofs.Sums.{far-none, more-far, far-more-tops}
-use Rattle.columns.proofs.passes.Statement.{statement}
-use Rattle.columns.proofs.passes.Tie as tie
+use Rattle.columns.specs.Columns.{Columns}
+use Rattle.passing.specs.Next.{Far}
+use Rattle.passing.proofs.Sums.{far-none, more-far, far-more-tops}
+use Rattle.passing.proofs.passes.Statement.{statement}
+use Rattle.passing.proofs.passes.Tie as tie
 
 abbrev Inv-loop : tie.InvT-loop
 Inv-loop buffer at n last table tops₀ i₀ tops i =

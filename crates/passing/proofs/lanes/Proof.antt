@@ -1,12 +1,12 @@
--- `columns::lanes` meets its contract. Assumes nothing.
+-- `passing::lanes` meets its contract. Assumes nothing.
 use Prim.Native.Nat.{ℕ, _+_}
 use mathlib.Core.Path.{_≡_, sym, ap, ap₂, _∙_}
 use native.Mathlib.Nat.{add-zero}
 use borrow.Author.Needs.{needs}
 use lib.ListN.{getD}
-use Rattle.columns.proofs.Sums.{wrapped, sum-is}
-use Rattle.columns.proofs.lanes.Statement.{statement}
-use Rattle.columns.proofs.lanes.Tie as tie
+use Rattle.passing.proofs.Sums.{wrapped, sum-is}
+use Rattle.passing.proofs.lanes.Statement.{statement}
+use Rattle.passing.proofs.lanes.Tie as tie
 
 looked-up-requires : tie.Need-looked-up-requires
 looked-up-requires c κs = search needs

@@ -11,10 +11,11 @@ use lib.Count.{ones, ones-le}
 use lib.ListN.{length, getD}
 use Rattle.windows.specs.Definition.{bits, mark}
 use Rattle.windows.proofs.Distance.{window-le}
-use Rattle.columns.specs.Columns.{eight, differing, slack, entry, Columns, away, Far}
+use Rattle.columns.specs.Columns.{eight, differing, slack, entry, Columns}
+use Rattle.passing.specs.Next.{away, Far}
 use Rattle.columns.proofs.Eight.{eight-same, eight-wraps, eight-tops, eight-set}
-use Rattle.columns.proofs.Shares.{shares}
+use Rattle.passing.proofs.Shares.{shares}
 use Rattle.columns.proofs.Table.{differing-lt, entry-at}
 
 abbrev pub wrapped : ℕ → ℕ → ℕ
 wrapped a b = (a + b) % 2 ^ 64

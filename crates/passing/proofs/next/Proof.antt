@@ -1,13 +1,13 @@
--- `columns::next` meets its contract. Assumes nothing.
+-- `passing::next` meets its contract. Assumes nothing.
 use Prim.Native.Nat.{ℕ, _+_, _<_, _≤_}
 use mathlib.Core.Path.{_≡_, refl, sym, _∙_}
 use mathlib.Core.Bool.{true≢false}
 use mathlib.Core.Logic.{inl, inr}
 use native.Mathlib.Omega.{arith}
 use borrow.Author.Needs.{needs}
-use Rattle.columns.proofs.Sums.{far-more}
-use Rattle.columns.proofs.next.Statement.{statement}
-use Rattle.columns.proofs.next.Tie as tie
+use Rattle.passing.proofs.Sums.{far-more}
+use Rattle.passing.proofs.next.Statement.{statement}
+use Rattle.passing.proofs.next.Tie as tie
 
 inside-requires : tie.Need-inside-requires
 inside-requires c κs = search needs

@@ -1,13 +1,14 @@
--- `columns::passed` meets its contract: every window that begins before the place reached is too far. Assumes nothing.
+-- `passing::passed` meets its contract: every window that begins before the place reached is too far. Assumes nothing.
 use Prim.Native.Nat.{ℕ, _+_, _-_, _^_, _<_, _≤_}
 use mathlib.Core.Path.{_≡_, refl, sym, _∙_}
 use mathlib.Core.Bool.{true≢false}
 use native.Mathlib.Omega.{arith}
 use borrow.Author.Needs.{needs}
-use Rattle.columns.specs.Columns.{Columns, Far}
-use Rattle.columns.proofs.Sums.{far-more}
-use Rattle.columns.proofs.passed.Statement.{statement}
-use Rattle.columns.proofs.passed.Tie as tie
+use Rattle.columns.specs.Columns.{Columns}
+use Rattle.passing.specs.Next.{Far}
+use Rattle.passing.proofs.Sums.{far-more}
+use Rattle.passing.proofs.passed.Statement.{statement}
+use Rattle.passing.proofs.passed.Tie as tie
 
 abbrev Inv-loop : tie.InvT-loop
 Inv-loop buffer from n last table at₀ at = (from ≤ at) × (at ≤ last) × ((m t : ℕ) → m < 2 ^ 32 → Columns m t table → Far buffer m t from at)

@@ -1,11 +1,11 @@
--- `columns::looked_up` meets its contract. Assumes nothing.
+-- `passing::looked_up` meets its contract. Assumes nothing.
 use Prim.Native.Nat.{_<_}
 use mathlib.Core.Path.{refl}
 use native.Mathlib.Omega.{arith}
 use borrow.Author.Needs.{needs}
 use lib.ListN.{getD}
-use Rattle.columns.proofs.looked_up.Statement.{statement}
-use Rattle.columns.proofs.looked_up.Tie as tie
+use Rattle.passing.proofs.looked_up.Statement.{statement}
+use Rattle.passing.proofs.looked_up.Tie as tie
 
 byte : (c : tie.After-shared-slice-known) → getD (c .before .args .buffer .now) (c .before .args .i) 0 < 256
 byte c = omega (arith, c .shared-slice-known .given (c .before .args .i))

@@ -1,5 +1,5 @@
--- Any two answers that the promises allow are one. Assumes nothing.
-use mathlib.Core.Path.{_≡_, refl, sym, _∙_}
+-- Any two answers that the promise of `next` allows are one. Assumes nothing.
+use mathlib.Core.Path.{_≡_, refl}
 use mathlib.Core.Bool.{Bool, true, false}
 use mathlib.Core.List.{List}
 use mathlib.Core.Logic.{⊎-elim}
@@ -7,13 +7,9 @@ use Prim.Native.Nat.{ℕ, _+_, _<_, _≤_}
 use native.Mathlib.Omega.{arith}
 use borrow.Author.Tests.{ltb-true, ltb-false}
 use lib.Dec.{ltb}
-use lib.ListN.{length, getD}
-use Rattle.columns.specs.Columns.{Columns, Next}
-use Rattle.columns.proofs.Sums.{far-part}
-
--- tables of one marker and one tolerance have the same entries
-pub columns-coincide : (m t : ℕ) (a b : List ℕ) → Columns m t a → Columns m t b → (j : ℕ) → j < 1280 → getD a j 0 ≡ getD b j 0
-columns-coincide m t a b p q j h = p .1 j h ∙ sym (q .1 j h)
+use lib.ListN.{length}
+use Rattle.passing.specs.Next.{Next}
+use Rattle.passing.proofs.Sums.{far-part}
 
 module _ (bs : List ℕ) (m t from end : ℕ) where
   no-later : (r s : ℕ) → Next bs m t from end r → Next bs m t from end s → s ≤ r
