@@ -1,6 +1,6 @@
 // The marker finder (document 02, order 5): the smallest bit position at which a marker stands and stands again one frame later.
 ghost use mathlib.Core.Path.{_≡_};
-ghost use Rattle.finder.specs.Definition.{find};
+ghost use Rattle.windows.specs.Definition.{find};
 ghost use Rattle.handover.specs.Find.{finding, position-numbers};
 use handover::position::PositionOrRefusal;
 use handover::position::position_or_refusal;

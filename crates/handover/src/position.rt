@@ -1,6 +1,6 @@
 // What comes back of the marker finder.
 ghost use mathlib.Core.Path.{_≡_};
-ghost use Rattle.finder.specs.Answer.{answer-of};
+ghost use Rattle.windows.specs.Answer.{answer-of};
 ghost use Rattle.handover.specs.Find.{finding, position-numbers};
 use finder::Answer;
 

@@ -4,7 +4,7 @@ ghost use Prim.Native.Nat.{ℕ};
 ghost use mathlib.Core.Path.{_≡_};
 ghost use mathlib.Core.Bool.{true};
 ghost use mathlib.Core.List.{List, []};
-ghost use Rattle.finder.specs.Definition.{find};
+ghost use Rattle.windows.specs.Definition.{find};
 use arguments::Numeral;
 use finder::Answer;
 use libc::STDERR_FILENO;
