@@ -2,27 +2,30 @@
  *
  * SPDX-License-Identifier: Apache-2.0
  *
- * Made by link/header out of crates/gatulefo/src. `rt staticlib gatulefo` makes the archive, target/staticlib/libgatulefo.a, for Linux on x86-64, and link/install puts it with this
- * header where a compiler looks; link/check calls every function here from C and compares what it answers.
+ * Made by link/header out of crates/gatulefo/src. `rt staticlib gatulefo` makes the archive, target/staticlib/libgatulefo.a, for Linux on x86-64, and
+ * link/install puts it with this header where a compiler looks; link/check calls every function here from C and compares what it answers.
  *
- * Values. A vector goes in and comes out by value. A scalar goes in and comes out as its bits: an i8 as a uint8_t, a float as the number of its pattern. No number is wrong: any lane
- * number, index, count, address or step list gets an answer.
+ * Values. A vector goes in and comes out by value. A scalar goes in and comes out as its bits: an i8 as a uint8_t, a float as the number of its pattern. No
+ * number is wrong: any lane number, index, count, address or step list gets an answer.
  *
- * Refusals. Where a call may refuse, the number of the refusal comes back in the answer, 0 for none: 1 a list's length; 2 an operation without a step; 3 a register above 15; 4 a lane
- * not below the lane count; 5 a shuffle index above 31; 6 a scalar of the wrong kind; 7 an access past the end; 8 to 11 the finder's; 12 rows that differ in length or are odd; 13 to 15
- * a recording's length, checks and layout; 16 an output shorter than the input; 17 and 19 a run's limit and place; 18 more than 16 links. A refused call has written nothing, and the
- * value in its answer is 0; of gatulefo_run the steps before the refused one stay done. A load or a store that is refused with 7 says how far past the end it runs.
+ * Refusals. Where a call may refuse, the number of the refusal comes back in the answer, 0 for none: 1 a list's length; 2 an operation without a step; 3 a
+ * register above 15; 4 a lane not below the lane count; 5 a shuffle index above 31; 6 a scalar of the wrong kind; 7 an access past the end; 8 to 11 the
+ * finder's; 12 rows that differ in length or are odd; 13 to 15 a recording's length, checks and layout; 16 an output shorter than the input; 17 and 19 a
+ * run's limit and place; 18 more than 16 links. A refused call has written nothing, and the value in its answer is 0; of gatulefo_run the steps before the
+ * refused one stay done. A load or a store that is refused with 7 says how far past the end it runs.
  *
- * Pointers. Each points to as many elements as the length beside it says, aligned as its type is; with the length 0 it may be NULL. An `out` is only written and need not be set
- * before. Two pointers of one call may overlap where both are const. Else they may not: the two rows of a gatulefo_row_ or gatulefo_vector_row_ call, the registers, the numbers beside
- * them and the list or step of gatulefo_run and gatulefo_step, the links and `out` of gatulefo_fold, the list or file and `out` of gatulefo_record and gatulefo_mend. While a call runs no
- * other thread writes what it reads, or reads or writes what it writes. The library keeps no state, so any number of threads may call it at once.
+ * Pointers. Each points to as many elements as the length beside it says, aligned as its type is; with the length 0 it may be NULL. An `out` is only written
+ * and need not be set before. Two pointers of one call may overlap where both are const. Else they may not: the two rows of a gatulefo_row_ or
+ * gatulefo_vector_row_ call, the registers, the numbers beside them and the list or step of gatulefo_run and gatulefo_step, the links and `out` of
+ * gatulefo_fold, the list or file and `out` of gatulefo_record and gatulefo_mend. While a call runs no other thread writes what it reads, or reads or writes
+ * what it writes. The library keeps no state, so any number of threads may call it at once.
  *
- * Tail calls. A function that hands back a struct of more than 16 bytes writes it to a place on the caller's stack, and a handler that has such a place cannot end in a jump to the next
- * one. The functions behind gatulefo_value_ hand back the vector alone, in registers; so do all that cannot refuse, and an extract and a store hand back their structs of 16 bytes in registers.
+ * Tail calls. A function that hands back a struct of more than 16 bytes writes it to a place on the caller's stack, and a handler that has such a place
+ * cannot end in a jump to the next one. The functions behind gatulefo_value_ hand back the vector alone, in registers; so do all that cannot refuse, and an
+ * extract and a store hand back their structs of 16 bytes in registers.
  *
- * Above a declaration stands what the function does, and then its promise. The promise's words stand in crates/standard/specs, and in the specs of the crates that its source names.
- * `number` is the number of a vector's 128 bits, and `r` is what comes back.
+ * Above a declaration stands what the function does, and then its promise. The promise's words stand in crates/standard/specs, and in the specs of the crates
+ * that its source names. `number` is the number of a vector's 128 bits, and `r` is what comes back.
  */
 #ifndef GATULEFO_H
 #define GATULEFO_H
@@ -57,7 +60,8 @@ typedef struct {
     uint8_t refused;
 } gatulefo_vector_or_refusal;
 
-/* The vector of a load; or the number of a refusal, 4 or 7, and the vector is 0. With a 7 goes how far past the end the access runs, at most 2^64-1; else that is 0. */
+/* The vector of a load; or the number of a refusal, 4 or 7, and the vector is 0. With a 7 goes how far past the end the access runs, at most 2^64-1; else
+ * that is 0. */
 typedef struct {
     gatulefo_v128 vector;
     uint64_t shortfall;

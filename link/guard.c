@@ -1,6 +1,6 @@
-/* Every function that takes a pointer, called for link/check with memory that lies between two pages which cannot be touched: against the end of the first or the start of the second, at
- * every length from 0 and so at every alignment, at addresses up to the end, past it and up to the largest numbers; with NULL where the length is 0; then the same by four threads at once. A read or
- * write outside ends the program by a signal.
+/* Every function that takes a pointer, called for link/check with memory that lies between two pages which cannot be touched: against the end of the first or
+ * the start of the second, at every length from 0 and so at every alignment, at addresses up to the end, past it and up to the largest numbers; with NULL where
+ * the length is 0; then the same by four threads at once. A read or write outside ends the program by a signal.
  *
  * link/check writes accesses.h: a line for each load and store of the header, LOAD(name, bytes) and its kin.
  */

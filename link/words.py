@@ -8,7 +8,8 @@ LANES = {
 
 SIGNS = {"s": "signed", "u": "unsigned", None: ""}
 
-# By a pattern of the name behind the prefix. T stands for a shape of lanes, which {T} names in words and {T2} where it is the second; {sign} is signed or unsigned by the name's ending.
+# By a pattern of the name behind the prefix. T stands for a shape of lanes, which {T} names in words and {T2} where it is the second; {sign} is signed or
+# unsigned by the name's ending.
 RULES = [
     (r"T_splat", "Every one of the {T} is the lowest bits of the number, as many as a lane has."),
     (r"T_extract_lane(?:_([su]))?", "The lane at a number of {T}, {as_sign}as its bits."),

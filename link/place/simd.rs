@@ -1,5 +1,5 @@
-//! WebAssembly's vector instructions. 276 of the functions are calls of the proved archive through the crate `gatulefo`. The ten that are not carried over, and the types of lane
-//! numbers, are those of the file that stood here, which stands unchanged in simd/original.rs.
+//! WebAssembly's vector instructions. 276 of the functions are calls of the proved archive through the crate `gatulefo`. The ten that are not carried over,
+//! and the types of lane numbers, are those of the file that stood here, which stands unchanged in simd/original.rs.
 //!
 //! Made by link/place/make of Gatulefo; link/mount puts it here. SPDX-License-Identifier: Apache-2.0
 

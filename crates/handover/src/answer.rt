@@ -1,6 +1,6 @@
-// What comes back where an operation may refuse: the value and document 01's number of the refusal, and of an access how far past the end it runs (document 02, order 9).
-// The number is 0 where the value is given, and the value is 0 where it is refused. Or the vector alone, 0 where it is refused: it fits the two registers in which C hands a
-// value back, so that whoever calls has no place in memory to lend.
+// What comes back where an operation may refuse: the value and document 01's number of the refusal, and of an access how far past the end it runs (document
+// 02, order 9). The number is 0 where the value is given, and the value is 0 where it is refused. Or the vector alone, 0 where it is refused: it fits the two
+// registers in which C hands a value back, so that whoever calls has no place in memory to lend.
 ghost use Prim.Native.Nat.{ℕ};
 ghost use mathlib.Core.List.{List};
 ghost use mathlib.Core.Path.{_≡_};
@@ -34,7 +34,8 @@ pub struct VectorOrRefusal {
     pub refused: u8,
 }
 
-// The vector of a load; or the number of a refusal, 4 or 7, and the vector is 0. With a 7 goes how far past the end the access runs, at most 2^64-1; else that is 0.
+// The vector of a load; or the number of a refusal, 4 or 7, and the vector is 0. With a 7 goes how far past the end the access runs, at most 2^64-1; else
+// that is 0.
 #[repr(C)]
 pub struct Loaded {
     pub vector: V128,

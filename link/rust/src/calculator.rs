@@ -45,8 +45,8 @@ pub struct Scalar {
     pub bits: u64,
 }
 
-/// The state: the registers, beside each the number of the step that last wrote it in this run or 0, and the scalar. The default is all zeros and i32 0, from which the program
-/// `lanes` starts.
+/// The state: the registers, beside each the number of the step that last wrote it in this run or 0, and the scalar. The default is all zeros and i32 0, from
+/// which the program `lanes` starts.
 #[derive(Debug, Copy, Clone, PartialEq, Eq, Default)]
 #[allow(missing_docs)]
 pub struct State {
@@ -131,7 +131,8 @@ impl State {
                 length: usize,
             ) -> StepAnswer;
         }
-        // SAFETY: sixteen vectors are the 32 words that the function takes, low half first; the state is lent to the call alone, and the slice until it returns.
+        // SAFETY: sixteen vectors are the 32 words that the function takes, low half first; the state is lent to the call alone, and the slice until it
+        // returns.
         let answer = unsafe {
             gatulefo_step(self.registers.as_mut_ptr(), self.writers.as_mut_ptr(), self.scalar.into(), place, step.as_ptr(), step.len())
         };

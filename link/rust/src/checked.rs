@@ -1,5 +1,5 @@
-//! The functions of [`simd`](crate::simd) that may refuse, for any lane number, index and address. A [`Refusal`] has the number that document 01 gives it, and of an access past
-//! the end how far past the end it runs (document 02, order 9); one call tells all of it.
+//! The functions of [`simd`](crate::simd) that may refuse, for any lane number, index and address. A [`Refusal`] has the number that document 01 gives it,
+//! and of an access past the end how far past the end it runs (document 02, order 9); one call tells all of it.
 //!
 //! ```
 //! use gatulefo::{checked, Refusal, V128};

@@ -1,5 +1,5 @@
-//! Calls of the archive. A vector is handed over as its two halves, each a number, and a slice as its pointer and its length: so the archive's own code has them, and
-//! with link-time optimisation LLVM puts a function into its caller only where both have the same arguments.
+//! Calls of the archive. A vector is handed over as its two halves, each a number, and a slice as its pointer and its length: so the archive's own code has
+//! them, and with link-time optimisation LLVM puts a function into its caller only where both have the same arguments.
 
 use crate::simd::ImmLaneIdx;
 
@@ -62,8 +62,8 @@ macro_rules! call {
             #[link_name = concat!($prefix, stringify!($name))]
             fn linked( $( _: $ty ),* ) -> $result;
         }
-        // SAFETY: the types are those of the archive's function. A pointer with its length is of a slice that is lent until the call returns, and to the call alone
-        // where it is mutable.
+        // SAFETY: the types are those of the archive's function. A pointer with its length is of a slice that is lent until the call returns, and to the call
+        // alone where it is mutable.
         unsafe { linked( $( $value ),* ) }
     }};
     (@ $prefix:literal $name:ident [ $( $ty:ty, )* ] [ $( $value:expr, )* ] ($a:ident: V128 $(, $( $rest:tt )* )?) -> $result:ty) => {

@@ -1,8 +1,8 @@
 //! tail SHAPE, or tail: writes the names of the shapes
 //!
-//! A small interpreter whose handlers end in a call of the next one, as those of wasmi do: a comment in its simd.rs says that its dispatch relies on it. It runs one shape of
-//! operation 4,000,000 times on a stack of 64 KiB, which overflows where a handler's last call is not a jump, and writes a sum of the registers. There is a handler for each shape of
-//! signature among the functions of `simd`.
+//! A small interpreter whose handlers end in a call of the next one, as those of wasmi do: a comment in its simd.rs says that its dispatch relies on it. It
+//! runs one shape of operation 4,000,000 times on a stack of 64 KiB, which overflows where a handler's last call is not a jump, and writes a sum of the
+//! registers. There is a handler for each shape of signature among the functions of `simd`.
 
 use gatulefo::simd::{self, ImmLaneIdx};
 use gatulefo::{TrapCode, V128};

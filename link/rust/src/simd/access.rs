@@ -3,7 +3,8 @@
 use super::lane_index::{ImmLaneIdx2, ImmLaneIdx4, ImmLaneIdx8, ImmLaneIdx16};
 use crate::{TrapCode, V128, shortfall};
 
-/// What comes back of a load that hands back the vector alone: 0 where it is refused. Of a 0 the bounds test says which it is; a lane that can be made is never refused.
+/// What comes back of a load that hands back the vector alone: 0 where it is refused. Of a 0 the bounds test says which it is; a lane that can be made is
+/// never refused.
 #[inline]
 fn loaded(vector: V128, memory: &[u8], ptr: u64, offset: u64, bytes: usize) -> Result<V128, TrapCode> {
     if vector.lo | vector.hi == 0 && shortfall(memory, ptr, offset, bytes) != 0 {
