@@ -881,144 +881,76 @@ gatulefo_loaded gatulefo_v128_load64_lane(const uint8_t *memory, size_t memory_l
  * (number (r .vector), r .shortfall, r .refused) ≡ access-numbers (load-lane 64 (number x) lane (now (memory .entry)) address) */
 gatulefo_loaded gatulefo_v128_load64_lane_at(const uint8_t *memory, size_t memory_length, size_t address, gatulefo_v128 x, uint8_t lane);
 
-/* Loads that hand back the vector alone, in two registers: 0 where the load is refused. Whether a 0 is a refusal, `gatulefo_shortfall` says. For an interpreter whose handlers
- * end in a jump to the next, since a handler that lends a place on its stack cannot. */
+/* Loads that hand back the vector alone, in two registers: 0 where the load is refused. Whether a 0 is a refusal, `gatulefo_shortfall` says. For an interpreter
+ * whose handlers end in a jump to the next, since a handler that lends a place on its stack cannot. The address of an `_at` function is `ptr`, with the offset 0. */
 
 /* The vector alone, 0 where it is refused. Sixteen bytes, low byte first.
  * number r ≡ access-or-zero (load 16 (now (memory .entry)) (ptr + offset)) */
 gatulefo_v128 gatulefo_value_v128_load(const uint8_t *memory, size_t memory_length, uint64_t ptr, uint64_t offset);
 
-/* The vector alone, 0 where it is refused. Sixteen bytes, low byte first.
- * number r ≡ access-or-zero (load 16 (now (memory .entry)) address) */
-gatulefo_v128 gatulefo_value_v128_load_at(const uint8_t *memory, size_t memory_length, size_t address);
-
 /* The vector alone, 0 where it is refused. 32 bits, low byte first, and zeros above.
  * number r ≡ access-or-zero (load 4 (now (memory .entry)) (ptr + offset)) */
 gatulefo_v128 gatulefo_value_v128_load32_zero(const uint8_t *memory, size_t memory_length, uint64_t ptr, uint64_t offset);
-
-/* The vector alone, 0 where it is refused. 32 bits, low byte first, and zeros above.
- * number r ≡ access-or-zero (load 4 (now (memory .entry)) address) */
-gatulefo_v128 gatulefo_value_v128_load32_zero_at(const uint8_t *memory, size_t memory_length, size_t address);
 
 /* The vector alone, 0 where it is refused. 64 bits, low byte first, and zeros above.
  * number r ≡ access-or-zero (load 8 (now (memory .entry)) (ptr + offset)) */
 gatulefo_v128 gatulefo_value_v128_load64_zero(const uint8_t *memory, size_t memory_length, uint64_t ptr, uint64_t offset);
 
-/* The vector alone, 0 where it is refused. 64 bits, low byte first, and zeros above.
- * number r ≡ access-or-zero (load 8 (now (memory .entry)) address) */
-gatulefo_v128 gatulefo_value_v128_load64_zero_at(const uint8_t *memory, size_t memory_length, size_t address);
-
 /* The vector alone, 0 where it is refused. 8 bits, low byte first, in every lane.
  * number r ≡ access-or-zero (load-splat 8 (now (memory .entry)) (ptr + offset)) */
 gatulefo_v128 gatulefo_value_v128_load8_splat(const uint8_t *memory, size_t memory_length, uint64_t ptr, uint64_t offset);
-
-/* The vector alone, 0 where it is refused. 8 bits, low byte first, in every lane.
- * number r ≡ access-or-zero (load-splat 8 (now (memory .entry)) address) */
-gatulefo_v128 gatulefo_value_v128_load8_splat_at(const uint8_t *memory, size_t memory_length, size_t address);
 
 /* The vector alone, 0 where it is refused. 16 bits, low byte first, in every lane.
  * number r ≡ access-or-zero (load-splat 16 (now (memory .entry)) (ptr + offset)) */
 gatulefo_v128 gatulefo_value_v128_load16_splat(const uint8_t *memory, size_t memory_length, uint64_t ptr, uint64_t offset);
 
-/* The vector alone, 0 where it is refused. 16 bits, low byte first, in every lane.
- * number r ≡ access-or-zero (load-splat 16 (now (memory .entry)) address) */
-gatulefo_v128 gatulefo_value_v128_load16_splat_at(const uint8_t *memory, size_t memory_length, size_t address);
-
 /* The vector alone, 0 where it is refused. 32 bits, low byte first, in every lane.
  * number r ≡ access-or-zero (load-splat 32 (now (memory .entry)) (ptr + offset)) */
 gatulefo_v128 gatulefo_value_v128_load32_splat(const uint8_t *memory, size_t memory_length, uint64_t ptr, uint64_t offset);
-
-/* The vector alone, 0 where it is refused. 32 bits, low byte first, in every lane.
- * number r ≡ access-or-zero (load-splat 32 (now (memory .entry)) address) */
-gatulefo_v128 gatulefo_value_v128_load32_splat_at(const uint8_t *memory, size_t memory_length, size_t address);
 
 /* The vector alone, 0 where it is refused. 64 bits, low byte first, in every lane.
  * number r ≡ access-or-zero (load-splat 64 (now (memory .entry)) (ptr + offset)) */
 gatulefo_v128 gatulefo_value_v128_load64_splat(const uint8_t *memory, size_t memory_length, uint64_t ptr, uint64_t offset);
 
-/* The vector alone, 0 where it is refused. 64 bits, low byte first, in every lane.
- * number r ≡ access-or-zero (load-splat 64 (now (memory .entry)) address) */
-gatulefo_v128 gatulefo_value_v128_load64_splat_at(const uint8_t *memory, size_t memory_length, size_t address);
-
 /* The vector alone, 0 where it is refused. Eight bytes as 8 lanes of 8 bits, signed, each widened to twice its bits.
  * number r ≡ access-or-zero (load-widen extend-s 8 (now (memory .entry)) (ptr + offset)) */
 gatulefo_v128 gatulefo_value_v128_load8x8_s(const uint8_t *memory, size_t memory_length, uint64_t ptr, uint64_t offset);
-
-/* The vector alone, 0 where it is refused. Eight bytes as 8 lanes of 8 bits, signed, each widened to twice its bits.
- * number r ≡ access-or-zero (load-widen extend-s 8 (now (memory .entry)) address) */
-gatulefo_v128 gatulefo_value_v128_load8x8_s_at(const uint8_t *memory, size_t memory_length, size_t address);
 
 /* The vector alone, 0 where it is refused. Eight bytes as 8 lanes of 8 bits, unsigned, each widened to twice its bits.
  * number r ≡ access-or-zero (load-widen extend-u 8 (now (memory .entry)) (ptr + offset)) */
 gatulefo_v128 gatulefo_value_v128_load8x8_u(const uint8_t *memory, size_t memory_length, uint64_t ptr, uint64_t offset);
 
-/* The vector alone, 0 where it is refused. Eight bytes as 8 lanes of 8 bits, unsigned, each widened to twice its bits.
- * number r ≡ access-or-zero (load-widen extend-u 8 (now (memory .entry)) address) */
-gatulefo_v128 gatulefo_value_v128_load8x8_u_at(const uint8_t *memory, size_t memory_length, size_t address);
-
 /* The vector alone, 0 where it is refused. Eight bytes as 4 lanes of 16 bits, signed, each widened to twice its bits.
  * number r ≡ access-or-zero (load-widen extend-s 16 (now (memory .entry)) (ptr + offset)) */
 gatulefo_v128 gatulefo_value_v128_load16x4_s(const uint8_t *memory, size_t memory_length, uint64_t ptr, uint64_t offset);
-
-/* The vector alone, 0 where it is refused. Eight bytes as 4 lanes of 16 bits, signed, each widened to twice its bits.
- * number r ≡ access-or-zero (load-widen extend-s 16 (now (memory .entry)) address) */
-gatulefo_v128 gatulefo_value_v128_load16x4_s_at(const uint8_t *memory, size_t memory_length, size_t address);
 
 /* The vector alone, 0 where it is refused. Eight bytes as 4 lanes of 16 bits, unsigned, each widened to twice its bits.
  * number r ≡ access-or-zero (load-widen extend-u 16 (now (memory .entry)) (ptr + offset)) */
 gatulefo_v128 gatulefo_value_v128_load16x4_u(const uint8_t *memory, size_t memory_length, uint64_t ptr, uint64_t offset);
 
-/* The vector alone, 0 where it is refused. Eight bytes as 4 lanes of 16 bits, unsigned, each widened to twice its bits.
- * number r ≡ access-or-zero (load-widen extend-u 16 (now (memory .entry)) address) */
-gatulefo_v128 gatulefo_value_v128_load16x4_u_at(const uint8_t *memory, size_t memory_length, size_t address);
-
 /* The vector alone, 0 where it is refused. Eight bytes as 2 lanes of 32 bits, signed, each widened to twice its bits.
  * number r ≡ access-or-zero (load-widen extend-s 32 (now (memory .entry)) (ptr + offset)) */
 gatulefo_v128 gatulefo_value_v128_load32x2_s(const uint8_t *memory, size_t memory_length, uint64_t ptr, uint64_t offset);
-
-/* The vector alone, 0 where it is refused. Eight bytes as 2 lanes of 32 bits, signed, each widened to twice its bits.
- * number r ≡ access-or-zero (load-widen extend-s 32 (now (memory .entry)) address) */
-gatulefo_v128 gatulefo_value_v128_load32x2_s_at(const uint8_t *memory, size_t memory_length, size_t address);
 
 /* The vector alone, 0 where it is refused. Eight bytes as 2 lanes of 32 bits, unsigned, each widened to twice its bits.
  * number r ≡ access-or-zero (load-widen extend-u 32 (now (memory .entry)) (ptr + offset)) */
 gatulefo_v128 gatulefo_value_v128_load32x2_u(const uint8_t *memory, size_t memory_length, uint64_t ptr, uint64_t offset);
 
-/* The vector alone, 0 where it is refused. Eight bytes as 2 lanes of 32 bits, unsigned, each widened to twice its bits.
- * number r ≡ access-or-zero (load-widen extend-u 32 (now (memory .entry)) address) */
-gatulefo_v128 gatulefo_value_v128_load32x2_u_at(const uint8_t *memory, size_t memory_length, size_t address);
-
 /* The vector alone, 0 where it is refused. The vector with the lane at a number replaced by 8 bits of the memory.
  * number r ≡ access-or-zero (load-lane 8 (number x) lane (now (memory .entry)) (ptr + offset)) */
 gatulefo_v128 gatulefo_value_v128_load8_lane(const uint8_t *memory, size_t memory_length, uint64_t ptr, uint64_t offset, gatulefo_v128 x, uint8_t lane);
-
-/* The vector alone, 0 where it is refused. The vector with the lane at a number replaced by 8 bits of the memory.
- * number r ≡ access-or-zero (load-lane 8 (number x) lane (now (memory .entry)) address) */
-gatulefo_v128 gatulefo_value_v128_load8_lane_at(const uint8_t *memory, size_t memory_length, size_t address, gatulefo_v128 x, uint8_t lane);
 
 /* The vector alone, 0 where it is refused. The vector with the lane at a number replaced by 16 bits of the memory.
  * number r ≡ access-or-zero (load-lane 16 (number x) lane (now (memory .entry)) (ptr + offset)) */
 gatulefo_v128 gatulefo_value_v128_load16_lane(const uint8_t *memory, size_t memory_length, uint64_t ptr, uint64_t offset, gatulefo_v128 x, uint8_t lane);
 
-/* The vector alone, 0 where it is refused. The vector with the lane at a number replaced by 16 bits of the memory.
- * number r ≡ access-or-zero (load-lane 16 (number x) lane (now (memory .entry)) address) */
-gatulefo_v128 gatulefo_value_v128_load16_lane_at(const uint8_t *memory, size_t memory_length, size_t address, gatulefo_v128 x, uint8_t lane);
-
 /* The vector alone, 0 where it is refused. The vector with the lane at a number replaced by 32 bits of the memory.
  * number r ≡ access-or-zero (load-lane 32 (number x) lane (now (memory .entry)) (ptr + offset)) */
 gatulefo_v128 gatulefo_value_v128_load32_lane(const uint8_t *memory, size_t memory_length, uint64_t ptr, uint64_t offset, gatulefo_v128 x, uint8_t lane);
 
-/* The vector alone, 0 where it is refused. The vector with the lane at a number replaced by 32 bits of the memory.
- * number r ≡ access-or-zero (load-lane 32 (number x) lane (now (memory .entry)) address) */
-gatulefo_v128 gatulefo_value_v128_load32_lane_at(const uint8_t *memory, size_t memory_length, size_t address, gatulefo_v128 x, uint8_t lane);
-
 /* The vector alone, 0 where it is refused. The vector with the lane at a number replaced by 64 bits of the memory.
  * number r ≡ access-or-zero (load-lane 64 (number x) lane (now (memory .entry)) (ptr + offset)) */
 gatulefo_v128 gatulefo_value_v128_load64_lane(const uint8_t *memory, size_t memory_length, uint64_t ptr, uint64_t offset, gatulefo_v128 x, uint8_t lane);
-
-/* The vector alone, 0 where it is refused. The vector with the lane at a number replaced by 64 bits of the memory.
- * number r ≡ access-or-zero (load-lane 64 (number x) lane (now (memory .entry)) address) */
-gatulefo_v128 gatulefo_value_v128_load64_lane_at(const uint8_t *memory, size_t memory_length, size_t address, gatulefo_v128 x, uint8_t lane);
 
 /* The packed forms: each half as one number, with the answers of the functions of the same names. */
 

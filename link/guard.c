@@ -2,7 +2,8 @@
  * the start of the second, at every length from 0 and so at every alignment, at addresses up to the end, past it and up to the largest numbers; with NULL where
  * the length is 0; then the same by four threads at once. A read or write outside ends the program by a signal.
  *
- * link/check writes accesses.h: a line for each load and store of the header, LOAD(name, bytes) and its kin.
+ * link/check writes accesses.h: a line for each load and store of the header, LOAD(name, bytes) and its kin; of a load at an address also the load at a pointer,
+ * whose value alone is asked with the offset 0.
  */
 #define _GNU_SOURCE
 #include <pthread.h>
@@ -72,15 +73,15 @@ typedef gatulefo_v128 value(const uint8_t *, size_t, uint64_t, uint64_t, uint8_t
 typedef gatulefo_stored store(uint8_t *, size_t, uint64_t, uint64_t, uint8_t);
 
 /* Each load and store with the arguments of the longest. */
-#define LOADS(name, arguments) \
+#define LOADS(name, arguments, alone, its) \
     static gatulefo_loaded load_##name(const uint8_t *m, size_t n, uint64_t a, uint64_t o, uint8_t l) { (void)o, (void)l; return gatulefo_##name arguments; } \
-    static gatulefo_v128 value_##name(const uint8_t *m, size_t n, uint64_t a, uint64_t o, uint8_t l) { (void)o, (void)l; return gatulefo_value_##name arguments; }
+    static gatulefo_v128 value_##name(const uint8_t *m, size_t n, uint64_t a, uint64_t o, uint8_t l) { (void)o, (void)l; return gatulefo_value_##alone its; }
 #define STORES(name, arguments) \
     static gatulefo_stored store_##name(uint8_t *m, size_t n, uint64_t a, uint64_t o, uint8_t l) { (void)o, (void)l; return gatulefo_##name arguments; }
-#define LOAD(name, bytes) LOADS(name, (m, n, a, o))
-#define LOAD_AT(name, bytes) LOADS(name, (m, n, a))
-#define LOAD_LANE(name, bytes) LOADS(name, (m, n, a, o, vector, l))
-#define LOAD_LANE_AT(name, bytes) LOADS(name, (m, n, a, vector, l))
+#define LOAD(name, bytes) LOADS(name, (m, n, a, o), name, (m, n, a, o))
+#define LOAD_AT(name, bytes, at_pointer) LOADS(name, (m, n, a), at_pointer, (m, n, a, 0))
+#define LOAD_LANE(name, bytes) LOADS(name, (m, n, a, o, vector, l), name, (m, n, a, o, vector, l))
+#define LOAD_LANE_AT(name, bytes, at_pointer) LOADS(name, (m, n, a, vector, l), at_pointer, (m, n, a, 0, vector, l))
 #define STORE(name, bytes) STORES(name, (m, n, a, o, vector))
 #define STORE_AT(name, bytes) STORES(name, (m, n, a, vector))
 #define STORE_LANE(name, bytes) STORES(name, (m, n, a, o, vector, l))
@@ -106,9 +107,9 @@ static const struct access {
     uint8_t lanes;
 } accesses[] = {
 #define LOAD(name, bytes) {#name, load_##name, value_##name, NULL, bytes, false, 0},
-#define LOAD_AT(name, bytes) {#name, load_##name, value_##name, NULL, bytes, true, 0},
+#define LOAD_AT(name, bytes, at_pointer) {#name, load_##name, value_##name, NULL, bytes, true, 0},
 #define LOAD_LANE(name, bytes) {#name, load_##name, value_##name, NULL, bytes, false, 16 / bytes},
-#define LOAD_LANE_AT(name, bytes) {#name, load_##name, value_##name, NULL, bytes, true, 16 / bytes},
+#define LOAD_LANE_AT(name, bytes, at_pointer) {#name, load_##name, value_##name, NULL, bytes, true, 16 / bytes},
 #define STORE(name, bytes) {#name, NULL, NULL, store_##name, bytes, false, 0},
 #define STORE_AT(name, bytes) {#name, NULL, NULL, store_##name, bytes, true, 0},
 #define STORE_LANE(name, bytes) {#name, NULL, NULL, store_##name, bytes, false, 16 / bytes},

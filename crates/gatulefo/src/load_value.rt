@@ -1,5 +1,5 @@
-// Loads that hand back the vector alone, in two registers: 0 where the load is refused. Whether a 0 is a refusal, `gatulefo_shortfall` says. For an interpreter whose handlers
-// end in a jump to the next, since a handler that lends a place on its stack cannot.
+// Loads that hand back the vector alone, in two registers: 0 where the load is refused. Whether a 0 is a refusal, `gatulefo_shortfall` says. For an interpreter
+// whose handlers end in a jump to the next, since a handler that lends a place on its stack cannot. The address of an `_at` function is `ptr`, with the offset 0.
 // Made by link/exports.
 ghost use Rattle.handover.specs.Answer.{access-or-zero};
 ghost use Rattle.simd.specs.Number.{number};
@@ -18,24 +18,10 @@ pub extern "C" fn gatulefo_value_v128_load(memory: &[u8], ptr: u64, offset: u64)
 }
 
 #[no_mangle]
-pub extern "C" fn gatulefo_value_v128_load_at(memory: &[u8], address: usize) -> V128
-    ensures { λ r. ⌜ number r ≡ access-or-zero (load 16 (now (memory .entry)) address) ⌝ }
-{
-    load_or_zero(loads::v128_load_at(memory, address))
-}
-
-#[no_mangle]
 pub extern "C" fn gatulefo_value_v128_load32_zero(memory: &[u8], ptr: u64, offset: u64) -> V128
     ensures { λ r. ⌜ number r ≡ access-or-zero (load 4 (now (memory .entry)) (ptr + offset)) ⌝ }
 {
     load_or_zero(loads::v128_load32_zero(memory, ptr, offset))
-}
-
-#[no_mangle]
-pub extern "C" fn gatulefo_value_v128_load32_zero_at(memory: &[u8], address: usize) -> V128
-    ensures { λ r. ⌜ number r ≡ access-or-zero (load 4 (now (memory .entry)) address) ⌝ }
-{
-    load_or_zero(loads::v128_load32_zero_at(memory, address))
 }
 
 #[no_mangle]
@@ -46,24 +32,10 @@ pub extern "C" fn gatulefo_value_v128_load64_zero(memory: &[u8], ptr: u64, offse
 }
 
 #[no_mangle]
-pub extern "C" fn gatulefo_value_v128_load64_zero_at(memory: &[u8], address: usize) -> V128
-    ensures { λ r. ⌜ number r ≡ access-or-zero (load 8 (now (memory .entry)) address) ⌝ }
-{
-    load_or_zero(loads::v128_load64_zero_at(memory, address))
-}
-
-#[no_mangle]
 pub extern "C" fn gatulefo_value_v128_load8_splat(memory: &[u8], ptr: u64, offset: u64) -> V128
     ensures { λ r. ⌜ number r ≡ access-or-zero (load-splat 8 (now (memory .entry)) (ptr + offset)) ⌝ }
 {
     load_or_zero(loads::v128_load8_splat(memory, ptr, offset))
-}
-
-#[no_mangle]
-pub extern "C" fn gatulefo_value_v128_load8_splat_at(memory: &[u8], address: usize) -> V128
-    ensures { λ r. ⌜ number r ≡ access-or-zero (load-splat 8 (now (memory .entry)) address) ⌝ }
-{
-    load_or_zero(loads::v128_load8_splat_at(memory, address))
 }
 
 #[no_mangle]
@@ -74,24 +46,10 @@ pub extern "C" fn gatulefo_value_v128_load16_splat(memory: &[u8], ptr: u64, offs
 }
 
 #[no_mangle]
-pub extern "C" fn gatulefo_value_v128_load16_splat_at(memory: &[u8], address: usize) -> V128
-    ensures { λ r. ⌜ number r ≡ access-or-zero (load-splat 16 (now (memory .entry)) address) ⌝ }
-{
-    load_or_zero(loads::v128_load16_splat_at(memory, address))
-}
-
-#[no_mangle]
 pub extern "C" fn gatulefo_value_v128_load32_splat(memory: &[u8], ptr: u64, offset: u64) -> V128
     ensures { λ r. ⌜ number r ≡ access-or-zero (load-splat 32 (now (memory .entry)) (ptr + offset)) ⌝ }
 {
     load_or_zero(loads::v128_load32_splat(memory, ptr, offset))
-}
-
-#[no_mangle]
-pub extern "C" fn gatulefo_value_v128_load32_splat_at(memory: &[u8], address: usize) -> V128
-    ensures { λ r. ⌜ number r ≡ access-or-zero (load-splat 32 (now (memory .entry)) address) ⌝ }
-{
-    load_or_zero(loads::v128_load32_splat_at(memory, address))
 }
 
 #[no_mangle]
@@ -102,24 +60,10 @@ pub extern "C" fn gatulefo_value_v128_load64_splat(memory: &[u8], ptr: u64, offs
 }
 
 #[no_mangle]
-pub extern "C" fn gatulefo_value_v128_load64_splat_at(memory: &[u8], address: usize) -> V128
-    ensures { λ r. ⌜ number r ≡ access-or-zero (load-splat 64 (now (memory .entry)) address) ⌝ }
-{
-    load_or_zero(loads::v128_load64_splat_at(memory, address))
-}
-
-#[no_mangle]
 pub extern "C" fn gatulefo_value_v128_load8x8_s(memory: &[u8], ptr: u64, offset: u64) -> V128
     ensures { λ r. ⌜ number r ≡ access-or-zero (load-widen extend-s 8 (now (memory .entry)) (ptr + offset)) ⌝ }
 {
     load_or_zero(loads::v128_load8x8_s(memory, ptr, offset))
-}
-
-#[no_mangle]
-pub extern "C" fn gatulefo_value_v128_load8x8_s_at(memory: &[u8], address: usize) -> V128
-    ensures { λ r. ⌜ number r ≡ access-or-zero (load-widen extend-s 8 (now (memory .entry)) address) ⌝ }
-{
-    load_or_zero(loads::v128_load8x8_s_at(memory, address))
 }
 
 #[no_mangle]
@@ -130,24 +74,10 @@ pub extern "C" fn gatulefo_value_v128_load8x8_u(memory: &[u8], ptr: u64, offset:
 }
 
 #[no_mangle]
-pub extern "C" fn gatulefo_value_v128_load8x8_u_at(memory: &[u8], address: usize) -> V128
-    ensures { λ r. ⌜ number r ≡ access-or-zero (load-widen extend-u 8 (now (memory .entry)) address) ⌝ }
-{
-    load_or_zero(loads::v128_load8x8_u_at(memory, address))
-}
-
-#[no_mangle]
 pub extern "C" fn gatulefo_value_v128_load16x4_s(memory: &[u8], ptr: u64, offset: u64) -> V128
     ensures { λ r. ⌜ number r ≡ access-or-zero (load-widen extend-s 16 (now (memory .entry)) (ptr + offset)) ⌝ }
 {
     load_or_zero(loads::v128_load16x4_s(memory, ptr, offset))
-}
-
-#[no_mangle]
-pub extern "C" fn gatulefo_value_v128_load16x4_s_at(memory: &[u8], address: usize) -> V128
-    ensures { λ r. ⌜ number r ≡ access-or-zero (load-widen extend-s 16 (now (memory .entry)) address) ⌝ }
-{
-    load_or_zero(loads::v128_load16x4_s_at(memory, address))
 }
 
 #[no_mangle]
@@ -158,13 +88,6 @@ pub extern "C" fn gatulefo_value_v128_load16x4_u(memory: &[u8], ptr: u64, offset
 }
 
 #[no_mangle]
-pub extern "C" fn gatulefo_value_v128_load16x4_u_at(memory: &[u8], address: usize) -> V128
-    ensures { λ r. ⌜ number r ≡ access-or-zero (load-widen extend-u 16 (now (memory .entry)) address) ⌝ }
-{
-    load_or_zero(loads::v128_load16x4_u_at(memory, address))
-}
-
-#[no_mangle]
 pub extern "C" fn gatulefo_value_v128_load32x2_s(memory: &[u8], ptr: u64, offset: u64) -> V128
     ensures { λ r. ⌜ number r ≡ access-or-zero (load-widen extend-s 32 (now (memory .entry)) (ptr + offset)) ⌝ }
 {
@@ -172,24 +95,10 @@ pub extern "C" fn gatulefo_value_v128_load32x2_s(memory: &[u8], ptr: u64, offset
 }
 
 #[no_mangle]
-pub extern "C" fn gatulefo_value_v128_load32x2_s_at(memory: &[u8], address: usize) -> V128
-    ensures { λ r. ⌜ number r ≡ access-or-zero (load-widen extend-s 32 (now (memory .entry)) address) ⌝ }
-{
-    load_or_zero(loads::v128_load32x2_s_at(memory, address))
-}
-
-#[no_mangle]
 pub extern "C" fn gatulefo_value_v128_load32x2_u(memory: &[u8], ptr: u64, offset: u64) -> V128
     ensures { λ r. ⌜ number r ≡ access-or-zero (load-widen extend-u 32 (now (memory .entry)) (ptr + offset)) ⌝ }
 {
     load_or_zero(loads::v128_load32x2_u(memory, ptr, offset))
-}
-
-#[no_mangle]
-pub extern "C" fn gatulefo_value_v128_load32x2_u_at(memory: &[u8], address: usize) -> V128
-    ensures { λ r. ⌜ number r ≡ access-or-zero (load-widen extend-u 32 (now (memory .entry)) address) ⌝ }
-{
-    load_or_zero(loads::v128_load32x2_u_at(memory, address))
 }
 
 #[no_mangle]
@@ -206,18 +115,6 @@ pub extern "C" fn gatulefo_value_v128_load8_lane(
 }
 
 #[no_mangle]
-pub extern "C" fn gatulefo_value_v128_load8_lane_at(
-    memory: &[u8],
-    address: usize,
-    x: V128,
-    lane: u8,
-) -> V128
-    ensures { λ r. ⌜ number r ≡ access-or-zero (load-lane 8 (number x) lane (now (memory .entry)) address) ⌝ }
-{
-    load_or_zero(loads::v128_load8_lane_at(memory, address, x, lane))
-}
-
-#[no_mangle]
 pub extern "C" fn gatulefo_value_v128_load16_lane(
     memory: &[u8],
     ptr: u64,
@@ -228,18 +125,6 @@ pub extern "C" fn gatulefo_value_v128_load16_lane(
     ensures { λ r. ⌜ number r ≡ access-or-zero (load-lane 16 (number x) lane (now (memory .entry)) (ptr + offset)) ⌝ }
 {
     load_or_zero(loads::v128_load16_lane(memory, ptr, offset, x, lane))
-}
-
-#[no_mangle]
-pub extern "C" fn gatulefo_value_v128_load16_lane_at(
-    memory: &[u8],
-    address: usize,
-    x: V128,
-    lane: u8,
-) -> V128
-    ensures { λ r. ⌜ number r ≡ access-or-zero (load-lane 16 (number x) lane (now (memory .entry)) address) ⌝ }
-{
-    load_or_zero(loads::v128_load16_lane_at(memory, address, x, lane))
 }
 
 #[no_mangle]
@@ -256,18 +141,6 @@ pub extern "C" fn gatulefo_value_v128_load32_lane(
 }
 
 #[no_mangle]
-pub extern "C" fn gatulefo_value_v128_load32_lane_at(
-    memory: &[u8],
-    address: usize,
-    x: V128,
-    lane: u8,
-) -> V128
-    ensures { λ r. ⌜ number r ≡ access-or-zero (load-lane 32 (number x) lane (now (memory .entry)) address) ⌝ }
-{
-    load_or_zero(loads::v128_load32_lane_at(memory, address, x, lane))
-}
-
-#[no_mangle]
 pub extern "C" fn gatulefo_value_v128_load64_lane(
     memory: &[u8],
     ptr: u64,
@@ -278,16 +151,4 @@ pub extern "C" fn gatulefo_value_v128_load64_lane(
     ensures { λ r. ⌜ number r ≡ access-or-zero (load-lane 64 (number x) lane (now (memory .entry)) (ptr + offset)) ⌝ }
 {
     load_or_zero(loads::v128_load64_lane(memory, ptr, offset, x, lane))
-}
-
-#[no_mangle]
-pub extern "C" fn gatulefo_value_v128_load64_lane_at(
-    memory: &[u8],
-    address: usize,
-    x: V128,
-    lane: u8,
-) -> V128
-    ensures { λ r. ⌜ number r ≡ access-or-zero (load-lane 64 (number x) lane (now (memory .entry)) address) ⌝ }
-{
-    load_or_zero(loads::v128_load64_lane_at(memory, address, x, lane))
 }

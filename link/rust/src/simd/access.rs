@@ -36,8 +36,9 @@ macro_rules! loads {
     )* };
 }
 
+// An address is a pointer with the offset 0: each is the load of that name.
 macro_rules! loads_at {
-    ( $( $bytes:literal: fn $name:ident(memory: &[u8], address: usize $(, $argument:ident: $ty:ident )*) -> Result<V128, TrapCode>; )* ) => { $(
+    ( $( $bytes:literal, $load:ident: fn $name:ident(memory: &[u8], address: usize $(, $argument:ident: $ty:ident )*) -> Result<V128, TrapCode>; )* ) => { $(
         #[doc = concat!("Executes a Wasm `", stringify!($name), "` instruction.")]
         ///
         /// # Errors
@@ -45,8 +46,9 @@ macro_rules! loads_at {
         /// If the access runs past the end of `memory`.
         #[inline]
         pub fn $name(memory: &[u8], address: usize $(, $argument: $ty )*) -> Result<V128, TrapCode> {
-            let vector = call!("gatulefo_value_" $name(memory: &[u8], address: usize $(, $argument: $ty )*) -> V128);
-            loaded(vector, memory, address as u64, 0, $bytes)
+            let (ptr, offset) = (address as u64, 0_u64);
+            let vector = call!("gatulefo_value_" $load(memory: &[u8], ptr: u64, offset: u64 $(, $argument: $ty )*) -> V128);
+            loaded(vector, memory, ptr, offset, $bytes)
         }
     )* };
 }
@@ -86,19 +88,19 @@ loads! {
 }
 
 loads_at! {
-    16: fn v128_load_at(memory: &[u8], address: usize) -> Result<V128, TrapCode>;
-    4: fn v128_load32_zero_at(memory: &[u8], address: usize) -> Result<V128, TrapCode>;
-    8: fn v128_load64_zero_at(memory: &[u8], address: usize) -> Result<V128, TrapCode>;
-    1: fn v128_load8_splat_at(memory: &[u8], address: usize) -> Result<V128, TrapCode>;
-    2: fn v128_load16_splat_at(memory: &[u8], address: usize) -> Result<V128, TrapCode>;
-    4: fn v128_load32_splat_at(memory: &[u8], address: usize) -> Result<V128, TrapCode>;
-    8: fn v128_load64_splat_at(memory: &[u8], address: usize) -> Result<V128, TrapCode>;
-    8: fn v128_load8x8_s_at(memory: &[u8], address: usize) -> Result<V128, TrapCode>;
-    8: fn v128_load8x8_u_at(memory: &[u8], address: usize) -> Result<V128, TrapCode>;
-    8: fn v128_load16x4_s_at(memory: &[u8], address: usize) -> Result<V128, TrapCode>;
-    8: fn v128_load16x4_u_at(memory: &[u8], address: usize) -> Result<V128, TrapCode>;
-    8: fn v128_load32x2_s_at(memory: &[u8], address: usize) -> Result<V128, TrapCode>;
-    8: fn v128_load32x2_u_at(memory: &[u8], address: usize) -> Result<V128, TrapCode>;
+    16, v128_load: fn v128_load_at(memory: &[u8], address: usize) -> Result<V128, TrapCode>;
+    4, v128_load32_zero: fn v128_load32_zero_at(memory: &[u8], address: usize) -> Result<V128, TrapCode>;
+    8, v128_load64_zero: fn v128_load64_zero_at(memory: &[u8], address: usize) -> Result<V128, TrapCode>;
+    1, v128_load8_splat: fn v128_load8_splat_at(memory: &[u8], address: usize) -> Result<V128, TrapCode>;
+    2, v128_load16_splat: fn v128_load16_splat_at(memory: &[u8], address: usize) -> Result<V128, TrapCode>;
+    4, v128_load32_splat: fn v128_load32_splat_at(memory: &[u8], address: usize) -> Result<V128, TrapCode>;
+    8, v128_load64_splat: fn v128_load64_splat_at(memory: &[u8], address: usize) -> Result<V128, TrapCode>;
+    8, v128_load8x8_s: fn v128_load8x8_s_at(memory: &[u8], address: usize) -> Result<V128, TrapCode>;
+    8, v128_load8x8_u: fn v128_load8x8_u_at(memory: &[u8], address: usize) -> Result<V128, TrapCode>;
+    8, v128_load16x4_s: fn v128_load16x4_s_at(memory: &[u8], address: usize) -> Result<V128, TrapCode>;
+    8, v128_load16x4_u: fn v128_load16x4_u_at(memory: &[u8], address: usize) -> Result<V128, TrapCode>;
+    8, v128_load32x2_s: fn v128_load32x2_s_at(memory: &[u8], address: usize) -> Result<V128, TrapCode>;
+    8, v128_load32x2_u: fn v128_load32x2_u_at(memory: &[u8], address: usize) -> Result<V128, TrapCode>;
 }
 
 loads! {
@@ -109,10 +111,10 @@ loads! {
 }
 
 loads_at! {
-    1: fn v128_load8_lane_at(memory: &[u8], address: usize, x: V128, lane: ImmLaneIdx16) -> Result<V128, TrapCode>;
-    2: fn v128_load16_lane_at(memory: &[u8], address: usize, x: V128, lane: ImmLaneIdx8) -> Result<V128, TrapCode>;
-    4: fn v128_load32_lane_at(memory: &[u8], address: usize, x: V128, lane: ImmLaneIdx4) -> Result<V128, TrapCode>;
-    8: fn v128_load64_lane_at(memory: &[u8], address: usize, x: V128, lane: ImmLaneIdx2) -> Result<V128, TrapCode>;
+    1, v128_load8_lane: fn v128_load8_lane_at(memory: &[u8], address: usize, x: V128, lane: ImmLaneIdx16) -> Result<V128, TrapCode>;
+    2, v128_load16_lane: fn v128_load16_lane_at(memory: &[u8], address: usize, x: V128, lane: ImmLaneIdx8) -> Result<V128, TrapCode>;
+    4, v128_load32_lane: fn v128_load32_lane_at(memory: &[u8], address: usize, x: V128, lane: ImmLaneIdx4) -> Result<V128, TrapCode>;
+    8, v128_load64_lane: fn v128_load64_lane_at(memory: &[u8], address: usize, x: V128, lane: ImmLaneIdx2) -> Result<V128, TrapCode>;
 }
 
 stores! {
