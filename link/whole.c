@@ -10,6 +10,7 @@
  *   whole replay < RECORDING
  *   whole mend ROOM < RECORDING, into a buffer of so many bytes
  *   whole row add|xor|popcnt FIRST SECOND < BYTES, a row of so many halves and another behind it
+ *   whole vectors add|xor|popcnt FIRST SECOND < BYTES, the same of vectors
  *
  * Every field of an answer is read after every call: one that has to be 0 and is not gets written, and so does a buffer that has to stay as it was and does not.
  */
@@ -158,6 +159,19 @@ static void row(void) {
     fprintf(stderr, "refused %u\n", refused);
 }
 
+static void vectors(void) {
+    static gatulefo_v128 first[sizeof input / 16 + 1], second[sizeof input / 16 + 1];
+    size_t count = number(1);
+    uint8_t refused = 0;
+    memcpy(first, input, length);
+    memcpy(second, input + 16 * count, 16 * number(2));
+    if (!strcmp(arguments[0], "add")) refused = gatulefo_vector_row_i8x16_add(first, count, second, number(2));
+    if (!strcmp(arguments[0], "xor")) refused = gatulefo_vector_row_v128_xor(first, count, second, number(2));
+    if (!strcmp(arguments[0], "popcnt")) gatulefo_vector_row_i8x16_popcnt(first, count);
+    fwrite(first, 1, length, stdout);
+    fprintf(stderr, "refused %u\n", refused);
+}
+
 static const struct {
     const char *name;
     int arguments;
@@ -165,6 +179,7 @@ static const struct {
 } modes[] = {
     {"marker", 3, marker}, {"lease", 2, lease},   {"held", 2, held}, {"steps", 0, steps}, {"fold", 0, fold},
     {"record", 1, record}, {"replay", 0, replay}, {"mend", 1, mend}, {"row", 3, row},
+    {"vectors", 3, vectors},
 };
 
 int main(int count, char **words) {

@@ -207,14 +207,15 @@ def row_cases():
     """ "Equal, element by element, to the single operation. An empty row is fine. Refusals: 12 when the two rows differ in length or a row of halves is odd, nothing written."
     (order 6)"""
     given = (EXAMPLES / "frames.capture").read_bytes()
-    half = len(given) // 16
-    for name, lane in ROWS.items():
-        for first, second in ((half, half), (0, 0), (4, 6), (6, 4), (3, 3)):
-            other = first if name == "popcnt" else second
-            refused = 12 if first != other or first % 2 else 0
-            row, behind = given[: 8 * first], given[8 * first :]
-            left = row if refused else bytes(map(lane, row, behind))
-            yield Case("row %s %d %d" % (name, first, other), given, left + behind, b"refused %d\n" % refused)
+    for mode, size in (("row", 8), ("vectors", 16)):
+        half = len(given) // (2 * size)
+        for name, lane in ROWS.items():
+            for first, second in ((half, half), (0, 0), (4, 6), (6, 4), (3, 3)):
+                other = first if name == "popcnt" else second
+                refused = 12 if first != other or mode == "row" and first % 2 else 0
+                row, behind = given[: size * first], given[size * first :]
+                left = row if refused else bytes(map(lane, row, behind))
+                yield Case("%s %s %d %d" % (mode, name, first, other), given, left + behind, b"refused %d\n" % refused)
 
 
 def cases():

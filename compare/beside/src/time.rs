@@ -51,44 +51,14 @@ macro_rules! round {
     }};
 }
 
-struct Row {
-    name: String,
-    rust: f64,
-    port: f64,
-}
-
-impl Row {
-    fn ratio(&self) -> f64 {
-        self.port / self.rust
-    }
-}
-
-fn row(number: u16) -> Row {
-    let requests = requests(number);
-    let mut rust = round!(table::entry(number).expect("a function").call, requests.0);
-    let mut port = round!(port::entry(number).call, requests.1);
-    let (rust, port) = fastest(&mut rust, &mut port);
-    Row { name: table::name(number), rust, port }
-}
-
-fn print(row: &Row) {
-    println!("| `{}` | {:.2} | {:.2} | {:.2} |", row.name, row.rust, row.port, row.ratio());
-}
-
-fn median(rows: &[Row]) -> f64 {
-    rows[rows.len() / 2].ratio()
-}
-
-/// A table of all, the median of the ratios and the worst ten.
+/// A line for each operation: its name, the nanoseconds of the Rust's, those of the linked one.
 pub fn run() -> bool {
-    println!("| operation | the Rust, ns | linked, ns | ratio |\n|---|---:|---:|---:|");
-    let mut rows: Vec<Row> = table::numbers().into_iter().map(row).collect();
-    rows.iter().for_each(print);
-    rows.sort_by(|a, b| a.ratio().total_cmp(&b.ratio()));
-    println!(
-        "\nMedian of the ratios: {:.2}. The worst ten:\n\n| operation | the Rust, ns | linked, ns | ratio |\n|---|---:|---:|---:|",
-        median(&rows)
-    );
-    rows.iter().rev().take(10).for_each(print);
+    for number in table::numbers() {
+        let requests = requests(number);
+        let mut rust = round!(table::entry(number).expect("a function").call, requests.0);
+        let mut port = round!(port::entry(number).call, requests.1);
+        let (rust, port) = fastest(&mut rust, &mut port);
+        println!("{}\t{rust:.2}\t{port:.2}", table::name(number));
+    }
     true
 }

@@ -5,63 +5,64 @@ ghost use Rattle.standard.specs.Integer.{extend-s};
 ghost use Rattle.standard.specs.Lanes.{extract};
 ghost use Rattle.standard.specs.Refusal.{at-lane};
 ghost use mathlib.Core.Path.{_≡_};
-use handover::answer::given_i32;
-use handover::answer::given_i64;
-use handover::answer::given_u32;
+use handover::answer::BitsOrRefusal;
+use handover::answer::of_i32;
+use handover::answer::of_i64;
+use handover::answer::of_u32;
 use simd::V128;
 
 #[no_mangle]
-pub extern "C" fn gatulefo_i64x2_extract_lane(v: V128, lane: u8, refused: &mut u8) -> u64
-    ensures { λ r. ⌜ (r, now (refused .exit)) ≡ pair (at-lane 64 lane (extract 64 (number v) lane)) ⌝ }
+pub extern "C" fn gatulefo_i64x2_extract_lane(v: V128, lane: u8) -> BitsOrRefusal
+    ensures { λ r. ⌜ (r .bits, r .refused) ≡ pair (at-lane 64 lane (extract 64 (number v) lane)) ⌝ }
 {
-    given_i64(v.i64x2_extract_lane(lane), refused)
+    of_i64(v.i64x2_extract_lane(lane))
 }
 
 #[no_mangle]
-pub extern "C" fn gatulefo_i32x4_extract_lane(v: V128, lane: u8, refused: &mut u8) -> u32
-    ensures { λ r. ⌜ (r, now (refused .exit)) ≡ pair (at-lane 32 lane (extract 32 (number v) lane)) ⌝ }
+pub extern "C" fn gatulefo_i32x4_extract_lane(v: V128, lane: u8) -> BitsOrRefusal
+    ensures { λ r. ⌜ (r .bits, r .refused) ≡ pair (at-lane 32 lane (extract 32 (number v) lane)) ⌝ }
 {
-    given_i32(v.i32x4_extract_lane(lane), refused)
+    of_i32(v.i32x4_extract_lane(lane))
 }
 
 #[no_mangle]
-pub extern "C" fn gatulefo_f64x2_extract_lane(v: V128, lane: u8, refused: &mut u8) -> u64
-    ensures { λ r. ⌜ (r, now (refused .exit)) ≡ pair (at-lane 64 lane (extract 64 (number v) lane)) ⌝ }
+pub extern "C" fn gatulefo_f64x2_extract_lane(v: V128, lane: u8) -> BitsOrRefusal
+    ensures { λ r. ⌜ (r .bits, r .refused) ≡ pair (at-lane 64 lane (extract 64 (number v) lane)) ⌝ }
 {
-    given_i64(v.i64x2_extract_lane(lane), refused)
+    of_i64(v.i64x2_extract_lane(lane))
 }
 
 #[no_mangle]
-pub extern "C" fn gatulefo_f32x4_extract_lane(v: V128, lane: u8, refused: &mut u8) -> u32
-    ensures { λ r. ⌜ (r, now (refused .exit)) ≡ pair (at-lane 32 lane (extract 32 (number v) lane)) ⌝ }
+pub extern "C" fn gatulefo_f32x4_extract_lane(v: V128, lane: u8) -> BitsOrRefusal
+    ensures { λ r. ⌜ (r .bits, r .refused) ≡ pair (at-lane 32 lane (extract 32 (number v) lane)) ⌝ }
 {
-    given_i32(v.i32x4_extract_lane(lane), refused)
+    of_i32(v.i32x4_extract_lane(lane))
 }
 
 #[no_mangle]
-pub extern "C" fn gatulefo_i8x16_extract_lane_s(v: V128, lane: u8, refused: &mut u8) -> u32
-    ensures { λ r. ⌜ (r, now (refused .exit)) ≡ pair (at-lane 8 lane (extend-s 8 32 (extract 8 (number v) lane))) ⌝ }
+pub extern "C" fn gatulefo_i8x16_extract_lane_s(v: V128, lane: u8) -> BitsOrRefusal
+    ensures { λ r. ⌜ (r .bits, r .refused) ≡ pair (at-lane 8 lane (extend-s 8 32 (extract 8 (number v) lane))) ⌝ }
 {
-    given_i32(v.i8x16_extract_lane_s(lane), refused)
+    of_i32(v.i8x16_extract_lane_s(lane))
 }
 
 #[no_mangle]
-pub extern "C" fn gatulefo_i8x16_extract_lane_u(v: V128, lane: u8, refused: &mut u8) -> u32
-    ensures { λ r. ⌜ (r, now (refused .exit)) ≡ pair (at-lane 8 lane (extract 8 (number v) lane)) ⌝ }
+pub extern "C" fn gatulefo_i8x16_extract_lane_u(v: V128, lane: u8) -> BitsOrRefusal
+    ensures { λ r. ⌜ (r .bits, r .refused) ≡ pair (at-lane 8 lane (extract 8 (number v) lane)) ⌝ }
 {
-    given_u32(v.i8x16_extract_lane_u(lane), refused)
+    of_u32(v.i8x16_extract_lane_u(lane))
 }
 
 #[no_mangle]
-pub extern "C" fn gatulefo_i16x8_extract_lane_s(v: V128, lane: u8, refused: &mut u8) -> u32
-    ensures { λ r. ⌜ (r, now (refused .exit)) ≡ pair (at-lane 16 lane (extend-s 16 32 (extract 16 (number v) lane))) ⌝ }
+pub extern "C" fn gatulefo_i16x8_extract_lane_s(v: V128, lane: u8) -> BitsOrRefusal
+    ensures { λ r. ⌜ (r .bits, r .refused) ≡ pair (at-lane 16 lane (extend-s 16 32 (extract 16 (number v) lane))) ⌝ }
 {
-    given_i32(v.i16x8_extract_lane_s(lane), refused)
+    of_i32(v.i16x8_extract_lane_s(lane))
 }
 
 #[no_mangle]
-pub extern "C" fn gatulefo_i16x8_extract_lane_u(v: V128, lane: u8, refused: &mut u8) -> u32
-    ensures { λ r. ⌜ (r, now (refused .exit)) ≡ pair (at-lane 16 lane (extract 16 (number v) lane)) ⌝ }
+pub extern "C" fn gatulefo_i16x8_extract_lane_u(v: V128, lane: u8) -> BitsOrRefusal
+    ensures { λ r. ⌜ (r .bits, r .refused) ≡ pair (at-lane 16 lane (extract 16 (number v) lane)) ⌝ }
 {
-    given_u32(v.i16x8_extract_lane_u(lane), refused)
+    of_u32(v.i16x8_extract_lane_u(lane))
 }

@@ -1,8 +1,8 @@
-// How far past the end an access runs that is refused with 7 (document 02, order 9).
+// How far past the end an access runs that is refused with 7 (document 02, order 9). Every load and store hands this back with its 7; here it is asked of an access by itself.
 ghost use mathlib.Core.Path.{_≡_};
 ghost use Prim.Native.Nat.{_+_};
 ghost use Rattle.standard.specs.Memory.{within};
-ghost use Rattle.handover.specs.Answer.{short-of};
+ghost use Rattle.handover.specs.Answer.{access-numbers};
 use bounds::Access;
 use bounds::Effective;
 use bounds::reach;
@@ -11,7 +11,7 @@ use bounds::reach;
 // `ptr`, with the offset 0.
 #[no_mangle]
 pub extern "C" fn gatulefo_shortfall(memory: &[u8], ptr: u64, offset: u64, bytes: usize) -> u64
-    ensures { λ r. ⌜ r ≡ short-of (within (now (memory .entry)) (ptr + offset) bytes (ptr + offset)) ⌝ }
+    ensures { λ r. ⌜ r ≡ access-numbers (within (now (memory .entry)) (ptr + offset) bytes (ptr + offset)) .1 ⌝ }
 {
     match reach(memory, Effective::Sum(ptr, offset), bytes) {
         Access::At(_) => 0,

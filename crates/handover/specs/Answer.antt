@@ -9,17 +9,23 @@ unfoldable pub pair : Answer ℕ → ℕ × ℕ
 pair (given x) = (x, 0)
 pair (refused n) = (0, n)
 
--- of an access; the shortfall of a 7 is told by itself, and is 0 where the access is allowed
-unfoldable pub access-pair : Accessed ℕ → ℕ × ℕ
-access-pair (answered a) = pair a
-access-pair (past n short) = (0, n)
+-- the value alone
+unfoldable pub or-zero : Answer ℕ → ℕ
+or-zero (given x) = x
+or-zero (refused n) = 0
 
-unfoldable pub short-of : Accessed ℕ → ℕ
-short-of (answered a) = 0
-short-of (past n short) = short
+-- of an access: the value, how far past the end it runs, and the number of a refusal
+unfoldable pub access-numbers : Accessed ℕ → ℕ × ℕ × ℕ
+access-numbers (answered (given x)) = (x, 0, 0)
+access-numbers (answered (refused n)) = (0, 0, n)
+access-numbers (past n short) = (0, short, n)
 
--- of a store: the number of a refusal, and every byte of the memory afterwards
-unfoldable pub store-pair : Stored → ℕ × List ℕ
-store-pair (written after) = (0, after)
-store-pair (kept n after) = (n, after)
-store-pair (kept-past n short after) = (n, after)
+unfoldable pub access-or-zero : Accessed ℕ → ℕ
+access-or-zero (answered a) = or-zero a
+access-or-zero (past n short) = 0
+
+-- of a store: how far past the end it runs, the number of a refusal, and every byte of the memory afterwards
+unfoldable pub store-numbers : Stored → ℕ × ℕ × List ℕ
+store-numbers (written after) = (0, 0, after)
+store-numbers (kept n after) = (0, n, after)
+store-numbers (kept-past n short after) = (short, n, after)

@@ -1,71 +1,40 @@
-//! Scalars, which go in and come out as their bits.
+//! What an extract hands back.
 
-/// A scalar and its bits.
-pub trait Scalar {
-    type Bits;
-    fn bits(self) -> Self::Bits;
+use crate::Refusal;
+
+/// The bits of a lane, or the number of a refusal: the archive's own struct.
+#[repr(C)]
+pub struct BitsOrRefusal {
+    pub bits: u64,
+    refused: u8,
 }
 
-/// A scalar of the bits that an extract hands back.
-pub trait Extracted {
-    type Bits;
-    fn of_bits(bits: Self::Bits) -> Self;
+impl BitsOrRefusal {
+    #[inline]
+    pub fn checked<T: OfBits>(self) -> Result<T, Refusal> {
+        Refusal::of(self.refused, 0).map_or_else(|| Ok(T::of_bits(self.bits)), Err)
+    }
 }
 
-macro_rules! integers {
-    ( $( $ty:ty as $bits:ty; )* ) => { $(
-        impl Scalar for $ty {
-            type Bits = $bits;
+/// A scalar of the bits that come back.
+pub trait OfBits {
+    fn of_bits(bits: u64) -> Self;
+}
+
+macro_rules! of_bits {
+    ( $( $ty:ty: $how:expr; )* ) => { $(
+        impl OfBits for $ty {
             #[inline]
-            fn bits(self) -> $bits {
-                self as $bits
+            fn of_bits(bits: u64) -> Self {
+                $how(bits)
             }
         }
     )* };
 }
-integers! {
-    i8 as u8;
-    i16 as u16;
-    i32 as u32;
-    i64 as u64;
-}
-
-macro_rules! floats {
-    ( $( $ty:ty as $bits:ty; )* ) => { $(
-        impl Scalar for $ty {
-            type Bits = $bits;
-            #[inline]
-            fn bits(self) -> $bits {
-                self.to_bits()
-            }
-        }
-        impl Extracted for $ty {
-            type Bits = $bits;
-            #[inline]
-            fn of_bits(bits: $bits) -> Self {
-                Self::from_bits(bits)
-            }
-        }
-    )* };
-}
-floats! {
-    f32 as u32;
-    f64 as u64;
-}
-
-macro_rules! extracted {
-    ( $( $ty:ty as $bits:ty; )* ) => { $(
-        impl Extracted for $ty {
-            type Bits = $bits;
-            #[inline]
-            fn of_bits(bits: $bits) -> Self {
-                bits as Self
-            }
-        }
-    )* };
-}
-extracted! {
-    i32 as u32;
-    u32 as u32;
-    i64 as u64;
+of_bits! {
+    i32: |bits| bits as i32;
+    u32: |bits| bits as u32;
+    i64: |bits| bits as i64;
+    f32: |bits| f32::from_bits(bits as u32);
+    f64: f64::from_bits;
 }

@@ -1,11 +1,16 @@
 //! The vector.
 
 /// A vector of 128 bits, as C has it: the low half, then the high half.
+///
+/// ```
+/// let v = gatulefo::V128::from(0x0102);
+/// assert_eq!((v.as_u128(), v.bytes()[0]), (0x0102, 2));
+/// ```
 #[derive(Debug, Copy, Clone, PartialEq, Eq, Default, Hash)]
 #[repr(C)]
 pub struct V128 {
-    lo: u64,
-    hi: u64,
+    pub(crate) lo: u64,
+    pub(crate) hi: u64,
 }
 
 impl V128 {

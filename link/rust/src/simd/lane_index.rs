@@ -1,4 +1,7 @@
 //! Lane numbers that are in range by their making.
+//!
+//! After `src/simd.rs` of wasmi_core 2.0.0 (Robin Freyler, MIT/Apache-2.0), changed: its types of lane numbers with their names, conversions and doc lines
+//! stand here by themselves, and the macros are written anew. The other files of this crate have its names and signatures alone.
 
 /// An error that may occur when constructing an out of bounds lane index.
 pub struct OutOfBoundsLaneIdx;

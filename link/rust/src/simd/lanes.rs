@@ -2,22 +2,9 @@
 
 use super::lane_index::{ImmLaneIdx2, ImmLaneIdx4, ImmLaneIdx8, ImmLaneIdx16, ImmLaneIdx32};
 use crate::V128;
-use crate::scalar::{Extracted, Scalar};
+use crate::scalar::{BitsOrRefusal, OfBits};
 
-macro_rules! splats {
-    ( $( fn $name:ident(value: $ty:ty) -> V128; )* ) => { $(
-        #[doc = concat!("Executes a Wasm `", stringify!($name), "` instruction.")]
-        #[inline]
-        pub fn $name(value: $ty) -> V128 {
-            unsafe extern "C" {
-                #[link_name = concat!("gatulefo_", stringify!($name))]
-                safe fn linked(bits: <$ty as Scalar>::Bits) -> V128;
-            }
-            linked(value.bits())
-        }
-    )* };
-}
-splats! {
+linked! { "gatulefo_";
     fn i64x2_splat(value: i64) -> V128;
     fn i32x4_splat(value: i32) -> V128;
     fn i16x8_splat(value: i16) -> V128;
@@ -26,17 +13,13 @@ splats! {
     fn f64x2_splat(value: f64) -> V128;
 }
 
-// A lane that can be made is never refused, so the number of a refusal, which comes back through the last argument, is not read.
+// A lane that can be made is never refused, so the number of a refusal, which comes back beside the bits, is not read.
 macro_rules! extracts {
-    ( $( fn $name:ident(v128: V128, lane: $lane:ty) -> $ty:ty; )* ) => { $(
+    ( $( fn $name:ident(v128: V128, lane: $lane:ident) -> $ty:ty; )* ) => { $(
         #[doc = concat!("Executes a Wasm `", stringify!($name), "` instruction.")]
         #[inline]
         pub fn $name(v128: V128, lane: $lane) -> $ty {
-            unsafe extern "C" {
-                #[link_name = concat!("gatulefo_", stringify!($name))]
-                safe fn linked(v: V128, lane: u8, refused: &mut u8) -> <$ty as Extracted>::Bits;
-            }
-            <$ty>::of_bits(linked(v128, lane.into(), &mut 0))
+            <$ty>::of_bits(call!("gatulefo_" $name(v128: V128, lane: $lane) -> BitsOrRefusal).bits)
         }
     )* };
 }
@@ -51,20 +34,8 @@ extracts! {
     fn i16x8_extract_lane_u(v128: V128, lane: ImmLaneIdx8) -> u32;
 }
 
-macro_rules! replaces {
-    ( $( fn $name:ident(v128: V128, lane: $lane:ty, item: $ty:ty) -> V128; )* ) => { $(
-        #[doc = concat!("Executes a Wasm `", stringify!($name), "` instruction.")]
-        #[inline]
-        pub fn $name(v128: V128, lane: $lane, item: $ty) -> V128 {
-            unsafe extern "C" {
-                #[link_name = concat!("gatulefo_", stringify!($name))]
-                safe fn linked(v: V128, lane: u8, bits: <$ty as Scalar>::Bits, refused: &mut u8) -> V128;
-            }
-            linked(v128, lane.into(), item.bits(), &mut 0)
-        }
-    )* };
-}
-replaces! {
+// These hand back the vector alone.
+linked! { "gatulefo_value_";
     fn i64x2_replace_lane(v128: V128, lane: ImmLaneIdx2, item: i64) -> V128;
     fn i32x4_replace_lane(v128: V128, lane: ImmLaneIdx4, item: i32) -> V128;
     fn i16x8_replace_lane(v128: V128, lane: ImmLaneIdx8, item: i16) -> V128;
@@ -76,10 +47,8 @@ replaces! {
 /// Executes a Wasm `i8x16.shuffle` instruction.
 #[inline]
 pub fn i8x16_shuffle(a: V128, b: V128, s: [ImmLaneIdx32; 16]) -> V128 {
-    unsafe extern "C" {
-        safe fn gatulefo_i8x16_shuffle(a: V128, b: V128, s: &[u8; 16], refused: &mut u8) -> V128;
-    }
-    gatulefo_i8x16_shuffle(a, b, &s.map(u8::from), &mut 0)
+    let s = V128::from(s.map(u8::from));
+    call!("gatulefo_value_" i8x16_shuffle(a: V128, b: V128, s: V128) -> V128)
 }
 
 linked! { "gatulefo_";

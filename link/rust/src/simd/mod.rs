@@ -9,6 +9,7 @@ mod reduce;
 mod relaxed;
 mod widen;
 
+pub(crate) use access::Stored;
 pub use access::*;
 pub use convert::*;
 pub use lane_index::*;
