@@ -1,5 +1,5 @@
 -- The entries of the columns: a byte's count is that of its two nibbles, and a table is made entry by entry. Assumes nothing.
-use mathlib.Core.Path.{_≡_, refl, sym, ap, ap₂, _∙_}
+use mathlib.Core.Path.{_≡_, sym, ap, ap₂, _∙_}
 use mathlib.Core.List.{List}
 use Prim.Native.Nat.{ℕ, zero, suc, _+_, _-_, _*_, _/_, _%_, _^_, _<_, _≤_}
 use native.Mathlib.Nat.{add-zero, add-assoc, mod-lt, mod-eq-of-lt, div-add-mod'}
@@ -12,7 +12,7 @@ use lib.Bits.{bitAnd, bitXor, and-mask, and-high, and-shr, and-mod, and-lt, xor-
 use lib.Count.{ones, ones-cat, ones-le}
 use lib.ListN.{length, getD, set, replicate}
 use lib.Seq.{getD-set-same, getD-set-other}
-use Rattle.standard.specs.Lanes.{digits, joined, zip}
+use Rattle.standard.specs.Lanes.{joined, zip}
 use Rattle.standard.specs.Integer.{ipopcnt}
 use Rattle.lane.proofs.Product.{counts}
 use Rattle.packed.specs.Half.{half-unary}

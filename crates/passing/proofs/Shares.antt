@@ -9,9 +9,9 @@ use lib.Arith.{digits-lt}
 use lib.Pow.{pow-pos, pow-add, pow-mono, shl-shr, shr-shr, high-ones, shr-lt}
 use lib.Bits.{bitAnd, bitXor, and-high, xor-block, xor-lt, xor-shr, xor-mod, and-shr, and-mod}
 use lib.Count.{ones, ones-cat}
-use lib.ListN.{length, take, drop, getD}
+use lib.ListN.{length, getD}
 use Rattle.windows.specs.Definition.{binary, bits, mark, window, distance}
-use Rattle.windows.proofs.Bits.{binary-push, binary-window, window-inside, spelt, spelt-all}
+use Rattle.windows.proofs.Bits.{binary-push, binary-window, window-inside, spelt-all}
 use Rattle.windows.proofs.Distance.{distance-words}
 use Rattle.columns.specs.Columns.{piece, differing}
 

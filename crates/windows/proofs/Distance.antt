@@ -8,7 +8,6 @@ use native.Mathlib.Numerals.{add-one}
 use native.Mathlib.Omega.{arith}
 use lib.Dec.{eqb}
 use lib.ListN.{length, take, drop, length-take}
-use lib.Seq.{take-nil, drop-nil}
 use lib.Pow.{pow-pos, mod-pow-add}
 use lib.Bits.{bitXor, xor-block, xor-lt}
 use lib.Count.{ones, ones-cat}
@@ -29,23 +28,11 @@ distance-append (x ∷ xs) ys (z ∷ zs) =
     ap (λ (d : ℕ). cond (eqb x z) 0 1 + d) (distance-append xs ys zs) ∙ sym (add-assoc (cond (eqb x z) 0 1) (distance xs zs) (distance ys (drop (length xs) zs)))
 
 -- what stands past the other list's end does not count
-pub distance-take : (n : ℕ) (xs zs : List ℕ) → length zs ≤ n → distance (take n xs) zs ≡ distance xs zs
-unfolding distance
-distance-take n [] zs h = ap (λ (l : List ℕ). distance l zs) (take-nil n)
-distance-take n (x ∷ xs) [] h = distance-nil (take n (x ∷ xs))
-distance-take zero (x ∷ xs) (z ∷ zs) h = absurd (omega arith)
-distance-take (suc n) (x ∷ xs) (z ∷ zs) h = ap (λ (d : ℕ). cond (eqb x z) 0 1 + d) (distance-take n xs zs (omega arith))
-
 pub distance-cut : (xs ys zs : List ℕ) → length xs ≤ length ys → distance xs (ys ++ zs) ≡ distance xs ys
 unfolding distance
 distance-cut [] ys zs h = refl
 distance-cut (x ∷ xs) [] zs h = absurd (omega arith)
 distance-cut (x ∷ xs) (y ∷ ys) zs h = ap (λ (d : ℕ). cond (eqb x y) 0 1 + d) (distance-cut xs ys zs (omega arith))
-
-pub distance-past : (k : ℕ) (xs zs : List ℕ) → length zs ≤ k → distance xs (drop k zs) ≡ 0
-distance-past k xs [] h = ap (distance xs) (drop-nil k) ∙ distance-nil xs
-distance-past zero xs (z ∷ zs) h = absurd (omega arith)
-distance-past (suc k) xs (z ∷ zs) h = distance-past k xs zs (omega arith)
 
 differ-le : (b : Bool) → cond {A = ℕ} b 0 1 ≤ 1
 differ-le true = omega arith
@@ -101,7 +88,7 @@ distance-ones (suc n) x y =
     parts z = ap (λ (k : ℕ). z % 2 ^ k) (sym (add-one n) ∙ add-comm n 1) ∙ mod-pow-add z 1 n
 
 -- two words
-pub distance-words : (w m : ℕ) → w < 2 ^ 32 → m < 2 ^ 32 → distance (binary 32 w) (mark m) ≡ ones (bitXor w m)
+pub distance-words : (w m : ℕ) → w < 2 ^ 32 → m < 2 ^ 32 → distance (binary 32 w) (binary 32 m) ≡ ones (bitXor w m)
 distance-words w m hw hm = distance-ones 32 w m ∙ ap₂ (λ (a b : ℕ). ones (bitXor a b)) (mod-eq-of-lt hw) (mod-eq-of-lt hm)
 
 -- a window of a word that holds eight bytes of a buffer
