@@ -1,6 +1,7 @@
 -- One turn of a run, and its ends: a step that is done, one that is refused, no step left, no step allowed. What is left of the run, with what is done before,
 -- is the run. Assumes nothing.
-use mathlib.Core.Path.{_≡_, sym, _∙_}
+use mathlib.Core.Path.{_≡_, refl, sym, _∙_}
+use mathlib.Core.Bool.{Bool, true, false, cond}
 use mathlib.Core.List.{List}
 use Prim.Native.Nat.{ℕ, suc, _+_, _*_, _-_, _<_, _≤_}
 use native.Mathlib.Nat.{add-zero}
@@ -8,6 +9,8 @@ use native.Mathlib.Numerals.{add-one}
 use native.Mathlib.Omega.{arith}
 use lib.ListN.{take, drop}
 use lib.Seq.{drop-drop}
+use lib.Dec.{ltb}
+use borrow.Author.Tests.{ltb-true, ltb-false}
 use Rattle.standard.specs.Refusal.{given, refused}
 use Rattle.rules.specs.Definition.{Machine, Ending, ended, paused, stopped, counting, step, steps}
 use Rattle.rules.proofs.Pauses.{twice, none-before}
@@ -43,15 +46,22 @@ module _ (n place limit at : ℕ) (list : List ℕ) (m : Machine) (since : place
     unfolding steps
     stop k e = rw (left, room, e, add-zero)
 
-  pub ends-here : n ≤ at → rest n place limit list at m ≡ ends m (at - place) ended
+  ends-here : n ≤ at → rest n place limit list at m ≡ ends m (at - place) ended
   unfolding steps
   ends-here h =
       let z : n - at ≡ 0 = omega arith in
       rw (z, add-zero)
 
-  pub pauses-here : at < n → at ≡ place + limit → rest n place limit list at m ≡ ends m (at - place) (paused at)
+  pauses-here : at < n → at ≡ place + limit → rest n place limit list at m ≡ ends m (at - place) (paused at)
   unfolding steps
   pauses-here h e =
       let l : n - at ≡ suc (n - (at + 1)) = omega arith in
       let z : limit - (at - place) ≡ 0 = omega arith in
       rw (l, z, add-zero)
+
+  -- where no step was refused, by whether steps are left
+  pub stops-here : (at < n → at ≡ place + limit) → rest n place limit list at m ≡ ends m (at - place) (cond (ltb at n) (paused at) ended)
+  stops-here h = by (ltb at n) refl where
+    by : (b : Bool) → ltb at n ≡ b → rest n place limit list at m ≡ ends m (at - place) (cond (ltb at n) (paused at) ended)
+    by true e = rw e (pauses-here (ltb-true at n e) (h (ltb-true at n e)))
+    by false e = rw e (ends-here (ltb-false at n e))

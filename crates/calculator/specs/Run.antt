@@ -2,14 +2,9 @@
 use Prim.Native.Nat.{ℕ}
 use Rattle.rules.specs.Definition as definition
 use Rattle.rules.specs.Definition.{Machine}
+use Rattle.limits.specs.Outcome.{outcome-of}
 use Rattle.state.specs.State.{machine}
-use Rattle.calculator.specs.declared.run.Outcome.{Outcome}
 use Rattle.calculator.specs.declared.run.Ending.{Ending}
-
-abbrev pub outcome-of : Outcome → definition.Outcome
-outcome-of Outcome.Ended = definition.ended
-outcome-of (Outcome.Paused place) = definition.paused place
-outcome-of (Outcome.Refused number) = definition.stopped number
 
 abbrev pub ends : Machine → ℕ → definition.Outcome → definition.Ending
 ends m done o = record { machine = m; done = done; outcome = o }

@@ -4,22 +4,14 @@ ghost use Prim.Native.Nat.{_+_, _-_, _*_, _/_, _<_, _≤_};
 ghost use lib.ListN.{length, drop};
 ghost use Rattle.rules.specs.Definition;
 ghost use Rattle.state.specs.State.{machine, held};
-ghost use Rattle.calculator.specs.Run.{outcome-of, ends, ending-of};
-use operation::scalar::Scalar;
+ghost use Rattle.limits.specs.Outcome.{outcome-of};
+ghost use Rattle.calculator.specs.Run.{ends, ending-of};
+pub use limits::Outcome;
+use scalar::Scalar;
 use state::State;
 use state::registers::of_words;
 use state::registers::words;
 use step::step;
-
-// How a run stops (document 02, order 12).
-pub enum Outcome {
-    // "a list with no step left has ended"
-    Ended,
-    // "Stopped at the limit with steps left": where, "counted from the list's start"
-    Paused(usize),
-    // the number of the refusal
-    Refused(u8),
-}
 
 // What a run leaves: the state, the steps done, and how it stopped.
 pub struct Ending {
@@ -68,11 +60,7 @@ fn steps(state: State, list: &[u8], place: usize, limit: usize) -> Ending
         }
         at += 1;
     }
-    if end < n {
-        left(w, writers, scalar, at - place, Outcome::Paused(end))
-    } else {
-        left(w, writers, scalar, at - place, Outcome::Ended)
-    }
+    left(w, writers, scalar, at - place, limits::stopped_at(n, at))
 }
 
 pub fn run(state: State, list: &[u8], place: usize, limit: usize) -> Ending

@@ -3,10 +3,10 @@ use Prim.Native.Nat.{ℕ}
 use mathlib.Core.Path.{_≡_, refl}
 use mathlib.Core.List.{List}
 use Rattle.rules.specs.Definition.{Machine}
-use Rattle.operation.specs.Scalar.{kind-of, bits-of, scalar-of}
-use Rattle.operation.specs.declared.scalar.Scalar.{Scalar}
+use Rattle.scalar.specs.Scalar.{kind-of, bits-of, scalar-of}
+use Rattle.scalar.specs.declared.Scalar.{Scalar}
 use Rattle.state.specs.State.{vectors}
-use Rattle.handover.specs.Calculate.{held, machine-held}
+use Rattle.handover_station.specs.Calculate.{held, machine-held}
 
 -- the state of a scalar is the one that the scalar's numbers stand for
 pub machines : (r w n : List ℕ) (s : Scalar) (k b : ℕ) → r ≡ vectors w → scalar-of s ≡ held k b

@@ -2,14 +2,14 @@
 ghost use mathlib.Core.Path.{_≡_};
 ghost use Rattle.records.specs.Definition.{recorded, replay};
 ghost use Rattle.mending_rules.specs.Definition.{mending};
-ghost use Rattle.handover.specs.Mending.{mended-of};
-ghost use Rattle.handover.specs.Recording.{record-numbers, left-by-recorder, replay-numbers, replayed};
-use handover::mended::MendAnswer;
-use handover::mended::mend_answer;
-use handover::recorded::RecordAnswer;
-use handover::recorded::ReplayAnswer;
-use handover::recorded::record_answer;
-use handover::recorded::replay_answer;
+ghost use Rattle.handover_station.specs.Mending.{mended-of};
+ghost use Rattle.handover_station.specs.Recording.{record-numbers, left-by-recorder, replay-numbers, replayed};
+use handover_station::mended::MendAnswer;
+use handover_station::mended::mend_answer;
+use handover_station::recorded::RecordAnswer;
+use handover_station::recorded::ReplayAnswer;
+use handover_station::recorded::record_answer;
+use handover_station::recorded::replay_answer;
 
 // Runs the list from zero registers and i32 0, and writes its recording to `out`, which 18,944 bytes are enough for.
 #[no_mangle]

@@ -1,5 +1,1 @@
 pub mod Answer
-pub mod Calculate
-pub mod Find
-pub mod Mending
-pub mod Recording

@@ -8,8 +8,9 @@ use Rattle.rules.specs.Definition as definition
 use Rattle.rules.specs.Definition.{run}
 use Rattle.rules.proofs.Pauses.{At, moves-on, never-above}
 use Rattle.state.specs.State.{machine}
-use Rattle.calculator.specs.Run.{outcome-of, ending-of}
-use Rattle.calculator.specs.declared.run.Outcome.{Outcome}
+use Rattle.limits.specs.Outcome.{outcome-of}
+use Rattle.calculator.specs.Run.{ending-of}
+use Rattle.limits.specs.declared.Outcome.{Outcome}
 use Rattle.calculator.specs.declared.run.Ending.{Ending}
 use Rattle.state.specs.declared.State.{State}
 

@@ -1,6 +1,6 @@
 // The listing of document 01: fixed byte strings, written around fields of digits. Each function that is not public says whether all of it was written.
 use libc::STDOUT_FILENO;
-use operation::scalar::Scalar;
+use scalar::Scalar;
 use simd::V128;
 use state::State;
 

@@ -3,12 +3,12 @@ ghost use mathlib.Core.Path.{_≡_};
 ghost use Rattle.standard.specs.Integer.{modulo};
 ghost use Rattle.standard.specs.Instruction.{i32, instruction};
 ghost use Rattle.simd.specs.Number.{number};
-ghost use Rattle.operation.specs.Scalar.{kind-of, bits-of};
+ghost use Rattle.scalar.specs.Scalar.{kind-of, bits-of};
 ghost use Rattle.families.specs.Family.{as-replace};
 use crate::given::vector;
-use crate::scalar::Scalar;
-use crate::scalar::low8;
-use crate::scalar::low16;
+use scalar::Scalar;
+use scalar::low8;
+use scalar::low16;
 use simd::V128;
 
 // Of a number of another family, of a scalar of another kind, or of a lane not below the lane count: the vector as it is.

@@ -3,11 +3,11 @@ ghost use mathlib.Core.Path.{_≡_};
 ghost use Rattle.standard.specs.Integer.{modulo};
 ghost use Rattle.standard.specs.Instruction.{i32, instruction};
 ghost use Rattle.simd.specs.Number.{number};
-ghost use Rattle.operation.specs.Scalar.{kind-of, bits-of};
+ghost use Rattle.scalar.specs.Scalar.{kind-of, bits-of};
 ghost use Rattle.families.specs.Family.{as-splat};
-use crate::scalar::Scalar;
-use crate::scalar::low8;
-use crate::scalar::low16;
+use scalar::Scalar;
+use scalar::low8;
+use scalar::low16;
 use simd::V128;
 
 const ZERO: V128 = V128 { lo: 0, hi: 0 };

@@ -2,8 +2,8 @@
 use mathlib.Core.Path.{_≡_, refl, ap}
 use Prim.Native.Nat.{ℕ}
 use native.Mathlib.Omega.{arith}
-use Rattle.recording.specs.Answer.{recorded-of}
-use Rattle.recording.specs.declared.recorder.Recorded.{Recorded}
+use Rattle.records.specs.Answer.{recorded-of}
+use Rattle.records.specs.declared.Recorded.{Recorded}
 
 pub recordings-coincide : (a b : Recorded) → recorded-of a ≡ recorded-of b → a ≡ b
 recordings-coincide (Recorded.Bytes m) (Recorded.Bytes n) e = ap Recorded.Bytes (let z : m ≡ n = cc in z)

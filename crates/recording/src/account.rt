@@ -12,7 +12,7 @@ ghost use Rattle.state.specs.State.{vectors, held};
 ghost use Rattle.trace.specs.Definition.{trace};
 ghost use Rattle.records.specs.Definition.{trace-of, next};
 use decision::decide;
-use operation::scalar::Scalar;
+use scalar::Scalar;
 use records::gives_vector;
 use records::kind_byte;
 use rules::fields::byte;

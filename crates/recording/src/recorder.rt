@@ -4,20 +4,10 @@ ghost use Prim.Native.Nat.{_+_, _/_, _≤_};
 ghost use lib.ListN.{length, take};
 ghost use Rattle.rules.specs.Definition.{start};
 ghost use Rattle.records.specs.Definition.{records-from, recorded};
-ghost use Rattle.recording.specs.Answer.{recorded-of};
+ghost use Rattle.records.specs.Answer.{recorded-of};
 use crate::account::account;
-use operation::scalar::Scalar;
-
-// How many bytes were written, or why none were.
-pub enum Recorded {
-    Bytes(usize),
-    // the list has no step, so there is nothing to record
-    Empty,
-    // the buffer is shorter than the recording
-    Short,
-    // the list is refused: the number
-    Refused(u8),
-}
+pub use records::Recorded;
+use scalar::Scalar;
 
 // The records of a list of whole steps, one after the other; how many bytes they are. A refused step is the last.
 fn record_steps(list: &[u8], out: &mut [u8]) -> usize

@@ -8,7 +8,7 @@ ghost use Rattle.records.specs.Definition.{replay-from, replay};
 use crate::account::account;
 use layout::judge::Judged;
 use layout::judge::judge;
-use operation::scalar::Scalar;
+use scalar::Scalar;
 use trace::Answer;
 use trace::compare;
 

@@ -1,9 +1,20 @@
-// Field recordings (document 02, order 8): the definition, and what of a record needs only the rules of a step.
+// Field recordings (document 02, order 8): the definition, what the recorder answers, and what of a record needs only the rules of a step.
 ghost use mathlib.Core.Path.{_≡_};
 ghost use Rattle.rules.specs.Shape.{the-kind, profile-of};
 ghost use Rattle.records.specs.Definition.{kind-byte};
 use rules::shape::Kind;
 use rules::shape::Shape;
+
+// How many bytes were written, or why none were.
+pub enum Recorded {
+    Bytes(usize),
+    // the list has no step, so there is nothing to record
+    Empty,
+    // the buffer is shorter than the recording
+    Short,
+    // the list is refused: the number
+    Refused(u8),
+}
 
 pub fn kind_byte(kind: Kind) -> u8
     ensures { λ r. ⌜ r ≡ kind-byte (the-kind kind) ⌝ }

@@ -3,8 +3,8 @@ use Prim.Native.Nat.{ℕ, _+_, _*_, _^_}
 use mathlib.Core.List.{List, [], _∷_, map}
 use Rattle.rules.specs.Definition.{Machine}
 use Rattle.simd.specs.Number.{number}
-use Rattle.operation.specs.Scalar.{kind-of, bits-of}
-use Rattle.operation.specs.declared.scalar.Scalar.{Scalar}
+use Rattle.scalar.specs.Scalar.{kind-of, bits-of}
+use Rattle.scalar.specs.declared.Scalar.{Scalar}
 use Rattle.state.specs.declared.State.{State}
 
 abbrev pub machine : State → Machine

@@ -4,11 +4,11 @@ pub mod registers;
 ghost use mathlib.Core.Path.{_≡_};
 ghost use Rattle.rules.specs.Definition.{start, reset, taken-up};
 ghost use Rattle.rules.specs.Shape.{the-kind};
-ghost use Rattle.operation.specs.Scalar.{kind-of, bits-of};
+ghost use Rattle.scalar.specs.Scalar.{kind-of, bits-of};
 ghost use Rattle.state.specs.State.{machine};
 ghost use Rattle.state.specs.Count.{as-count};
 use lane::reinterpret::unsigned32;
-use operation::scalar::Scalar;
+use scalar::Scalar;
 use rules::shape::Kind;
 use simd::V128;
 

@@ -16,8 +16,8 @@ use Rattle.rules.specs.declared.shape.Shape.{Shape}
 use Rattle.rules.proofs.Judged.{one}
 use Rattle.rules.proofs.Shapes.{profile-kept}
 use Rattle.rules.proofs.shape.Shape.{the-type}
-use Rattle.operation.specs.Scalar.{scalar-of}
-use Rattle.operation.specs.declared.scalar.Scalar.{Scalar}
+use Rattle.scalar.specs.Scalar.{scalar-of}
+use Rattle.scalar.specs.declared.Scalar.{Scalar}
 use Rattle.state.specs.State.{vectors, held}
 use Rattle.step.specs.Done.{writes, does}
 

@@ -9,8 +9,8 @@ use borrow.Author.Needs.{needs}
 use Rattle.records.specs.Definition as definition
 use Rattle.records.specs.Definition.{recorded}
 use Rattle.records.proofs.Theorems.{in-room}
-use Rattle.recording.specs.Answer.{recorded-of}
-use Rattle.recording.specs.declared.recorder.Recorded.{Recorded}
+use Rattle.records.specs.Answer.{recorded-of}
+use Rattle.records.specs.declared.Recorded.{Recorded}
 use Rattle.record.proofs.write_recording.Statement.{statement}
 use Rattle.record.proofs.write_recording.Tie as tie
 

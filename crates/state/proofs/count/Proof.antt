@@ -8,9 +8,9 @@ use types.Run.{OneOf, miss}
 use denote.Enum.Declared.{tagOf}
 use borrow.Author.Needs.{needs}
 use Rattle.rules.proofs.Shapes.{nothing}
-use Rattle.operation.specs.Scalar.{kind-of, bits-of}
-use Rattle.operation.specs.declared.scalar.Scalar.{Scalar}
-use Rattle.operation.proofs.scalar.Scalar.{the-type}
+use Rattle.scalar.specs.Scalar.{kind-of, bits-of}
+use Rattle.scalar.specs.declared.Scalar.{Scalar}
+use Rattle.scalar.proofs.Scalar.{the-type}
 use Rattle.state.specs.Count.{as-count}
 use Rattle.state.proofs.count.Statement.{statement}
 use Rattle.state.proofs.count.Tie as tie

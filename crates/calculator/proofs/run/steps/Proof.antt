@@ -9,7 +9,7 @@ use Rattle.standard.specs.Refusal.{given, refused}
 use Rattle.rules.specs.Definition.{step, steps}
 use Rattle.rules.proofs.Shapes.{nothing}
 use Rattle.state.specs.State.{held}
-use Rattle.calculator.proofs.Runs.{rest, starts, turn, stop, ends-here, pauses-here}
+use Rattle.calculator.proofs.Runs.{rest, starts, turn, stop, stops-here}
 use Rattle.calculator.proofs.run.steps.Statement.{statement}
 use Rattle.calculator.proofs.run.steps.Tie as tie
 
@@ -57,30 +57,19 @@ loop-again c =
 
 returns-2 : tie.Need-returns-2 Inv-loop μ-loop
 returns-2 c =
-    let l = c .before .before .before .loop in
-    let s = c .before .before .before .before .before .before .before .stop in
-    let a = c .before .before .before .before .before .before .before .before .before .args in
+    let k = c .before in
+    let l = k .before .before .loop in
+    let s = k .before .before .before .before .before .before .stop in
+    let a = k .before .before .before .before .before .before .before .before .args in
     let list = now (a .list) in
     let n = length list / 32 in
-    let q : s .result ≡ l .at = omega arith in
-    let more : l .at < n = omega (arith, c .before .if2 .taken) in
-    let met : l .at ≡ a .place + a .limit = omega (arith, s .ensures, c .before .if2 .taken) in
-    c .left2 .ensures ∙ rw q
-    (sym (pauses-here n (a .place) (a .limit) (l .at) list (held (l .w) (l .writers) (l .scalar)) (l .inv .0) more met) ∙ l .inv .2 ∙ rw (c .before .before .before .before .before .words .ensures))
-
-returns-3 : tie.Need-returns-3 Inv-loop μ-loop
-returns-3 c =
-    let l = c .before .before .before .loop in
-    let a = c .before .before .before .before .before .before .before .before .before .args in
-    let list = now (a .list) in
-    let n = length list / 32 in
-    let none : n ≤ l .at = omega (arith, c .before .if2 .left) in
-    c .left3 .ensures
-    ∙ sym (ends-here n (a .place) (a .limit) (l .at) list (held (l .w) (l .writers) (l .scalar)) (l .inv .0) none) ∙ l .inv .2 ∙ rw (c .before .before .before .before .before .words .ensures)
+    let met : l .at < n → l .at ≡ a .place + a .limit = λ h. omega (arith, s .ensures) in
+    c .left2 .ensures ∙ rw (k .stopped-at .ensures)
+    (sym (stops-here n (a .place) (a .limit) (l .at) list (held (l .w) (l .writers) (l .scalar)) (l .inv .0) met) ∙ l .inv .2 ∙ rw (k .before .before .before .before .words .ensures))
 
 pub steps-spec : {M : Type 1} → statement M
 steps-spec =
     tie.close
     (tie.spec
     Inv-loop μ-loop nothing nothing loop-holds (λ c. omega arith) (λ c. omega arith) (λ c. omega arith) (λ c. omega arith) (λ c. omega arith) (λ c. omega arith) nothing (λ c. omega arith) nothing returns
-    (λ c. omega arith) (λ c. omega arith) loop-again (λ c. omega arith) nothing (λ c. omega arith) nothing returns-2 returns-3)
+    (λ c. omega arith) (λ c. omega arith) loop-again (λ c. omega arith) nothing nothing returns-2)

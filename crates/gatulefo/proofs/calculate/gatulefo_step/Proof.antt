@@ -10,9 +10,9 @@ use borrow.Author.Tests.{ne-eqb}
 use denote.Ref.{now}
 use Rattle.standard.specs.Refusal.{Answer, given, refused}
 use Rattle.rules.specs.Definition.{Machine, step}
-use Rattle.operation.specs.declared.scalar.Scalar.{Scalar}
+use Rattle.scalar.specs.declared.Scalar.{Scalar}
 use Rattle.state.specs.State.{vectors, held}
-use Rattle.handover.specs.Calculate.{machine-numbers, left-by-step}
+use Rattle.handover_station.specs.Calculate.{machine-numbers, left-by-step}
 use Rattle.gatulefo.proofs.Machines.{machines}
 use Rattle.gatulefo.proofs.calculate.gatulefo_step.Statement.{statement}
 use Rattle.gatulefo.proofs.calculate.gatulefo_step.Tie as tie

@@ -1,0 +1,4 @@
+pub mod Calculate
+pub mod Find
+pub mod Mending
+pub mod Recording
