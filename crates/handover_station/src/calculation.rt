@@ -5,10 +5,10 @@ ghost use Rattle.standard.specs.Instruction.{i64, f32, f64};
 ghost use Rattle.scalar.specs.Scalar.{kind-of, bits-of, scalar-of};
 ghost use Rattle.limits.specs.Outcome.{outcome-of};
 ghost use Rattle.handover_station.specs.Calculate.{held, scalar-numbers, stop-numbers, run-numbers};
-use limits::Outcome;
 use float_lane::F32;
 use float_lane::F64;
 use lane::reinterpret::signed64;
+use limits::Outcome;
 use scalar::Scalar;
 
 // The calculator's scalar. Kind 0 is an i32, 1 an i64, 2 an f32, 3 an f64, as in a recording, and any other stands for 0; of a kind of 32 bits the low bits count.

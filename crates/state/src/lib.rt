@@ -8,8 +8,8 @@ ghost use Rattle.scalar.specs.Scalar.{kind-of, bits-of};
 ghost use Rattle.state.specs.State.{machine};
 ghost use Rattle.state.specs.Count.{as-count};
 use lane::reinterpret::unsigned32;
-use scalar::Scalar;
 use rules::shape::Kind;
+use scalar::Scalar;
 use simd::V128;
 
 pub struct State {

@@ -5,6 +5,7 @@ ghost use Prim.Native.Nat.{_+_, _%_, _<_};
 ghost use lib.ListN.{length, getD, set};
 ghost use Rattle.simd.specs.Number.{number};
 ghost use Rattle.state.specs.State.{vectors};
+use rules::fields::byte;
 use simd::V128;
 
 // The register that the low four bits of a number name: a judged number has no other.
@@ -16,6 +17,25 @@ pub fn get(w: &[u64; 32], register: u8) -> V128
         lo: w[i],
         hi: w[i + 1],
     }
+}
+
+// The registers that bytes 3, 4 and 5 of a step name: "3, 4, 5 sources a, b, c" (document 01).
+pub fn source_a(w: &[u64; 32], s: &[u8]) -> V128
+    ensures { λ r. ⌜ number r ≡ getD (vectors (now (w .entry))) (getD (now (s .entry)) 3 0 % 16) 0 ⌝ }
+{
+    get(w, byte(s, 3))
+}
+
+pub fn source_b(w: &[u64; 32], s: &[u8]) -> V128
+    ensures { λ r. ⌜ number r ≡ getD (vectors (now (w .entry))) (getD (now (s .entry)) 4 0 % 16) 0 ⌝ }
+{
+    get(w, byte(s, 4))
+}
+
+pub fn source_c(w: &[u64; 32], s: &[u8]) -> V128
+    ensures { λ r. ⌜ number r ≡ getD (vectors (now (w .entry))) (getD (now (s .entry)) 5 0 % 16) 0 ⌝ }
+{
+    get(w, byte(s, 5))
 }
 
 pub fn put(w: &mut [u64; 32], register: u8, v: V128)

@@ -19,7 +19,7 @@ use Rattle.rules.proofs.shape.Shape.{the-type}
 use Rattle.scalar.specs.Scalar.{scalar-of}
 use Rattle.scalar.specs.declared.Scalar.{Scalar}
 use Rattle.state.specs.State.{vectors, held}
-use Rattle.step.specs.Done.{writes, does}
+use Rattle.step.specs.Done.{writes, sets, numbers, does}
 
 record Passed (p : Profile) (k : Kind) (s : List ℕ) : Type 0 where
   registers : all-registers (used p s) ≡ true
@@ -93,29 +93,29 @@ leaves (replaced k w f) place m s p =
 pub done : (i : Instruction) (place : ℕ) (m : Machine) (s : List ℕ) → refusal (profile i) (m .kind) s ≡ 0 → does (shape i) i place m s ≡ effect i place m s
 done i place m s h = leaves i place m s (passed (profile i) (m .kind) s h)
 
--- the scalar alone, and a vector in the destination with its writer
+-- the scalar alone, and a vector in the destination
 pub another-scalar : (w n : List ℕ) (r : Scalar) {x : Kind × ℕ} → scalar-of r ≡ x → held w n r ≡ record { registers = vectors w; writers = n; kind = x .0; bits = x .1 }
 another-scalar w n r e = ap (λ (x : Kind × ℕ). record { registers = vectors w; writers = n; kind = x .0; bits = x .1 }) e
 
-pub another-register : {ws vs ms ns : List ℕ} (r : Scalar) → ws ≡ vs → ms ≡ ns → _≡_ {A = Machine} (record { registers = ws; writers = ms; kind = scalar-of r .0; bits = scalar-of r .1 }) (record { registers = vs; writers = ns; kind = scalar-of r .0; bits = scalar-of r .1 })
-another-register r e f = rw (e, f)
+pub another-register : {ws vs : List ℕ} (ns : List ℕ) (r : Scalar) → ws ≡ vs → _≡_ {A = Machine} (record { registers = ws; writers = ns; kind = scalar-of r .0; bits = scalar-of r .1 }) (record { registers = vs; writers = ns; kind = scalar-of r .0; bits = scalar-of r .1 })
+another-register ns r e = rw e
 
 -- the shapes whose vector is written, as a match's last arm says it
 abbrev writing : List ℕ
 writing = 1 ∷ 2 ∷ 3 ∷ 4 ∷ 5 ∷ 6 ∷ 8 ∷ 10 ∷ []
 
-pub stored : (x : Shape) (i : Instruction) (place : ℕ) (m : Machine) (s : List ℕ) → OneOf writing (tagOf the-type x) → does x i place m s ≡ writes x i place m s
-stored Shape.None i place m s h = absurd (miss writing 0 tt h)
-stored Shape.Constant i place m s h = refl
-stored Shape.Shuffle i place m s h = refl
-stored Shape.Unary i place m s h = refl
-stored Shape.Binary i place m s h = refl
-stored Shape.Ternary i place m s h = refl
-stored Shape.Shift i place m s h = refl
-stored Shape.Test i place m s h = absurd (miss writing 7 tt h)
-stored (Shape.Splat k) i place m s h = refl
-stored (Shape.Extract n) i place m s h = absurd (miss writing 9 tt h)
-stored (Shape.Replace n k) i place m s h = refl
+pub stored : (x : Shape) (i : Instruction) (m : Machine) (s : List ℕ) → OneOf writing (tagOf the-type x) → sets x i m s ≡ writes x i m s
+stored Shape.None i m s h = absurd (miss writing 0 tt h)
+stored Shape.Constant i m s h = refl
+stored Shape.Shuffle i m s h = refl
+stored Shape.Unary i m s h = refl
+stored Shape.Binary i m s h = refl
+stored Shape.Ternary i m s h = refl
+stored Shape.Shift i m s h = refl
+stored Shape.Test i m s h = absurd (miss writing 7 tt h)
+stored (Shape.Splat k) i m s h = refl
+stored (Shape.Extract n) i m s h = absurd (miss writing 9 tt h)
+stored (Shape.Replace n k) i m s h = refl
 
 -- a step whose operation's shape is x, where the judge says r
 module _ (place : ℕ) (m : Machine) (s : List ℕ) (op r : ℕ) (x : Shape) (o : op ≡ operation s) (d : x ≡ shape (instruction op)) (j : r ≡ refusal (profile-of x) (m .kind) s) where
