@@ -1,12 +1,12 @@
--- `mending::next` meets its contract. Assumes nothing.
+-- `mending_place::next` meets its contract. Assumes nothing.
 use mathlib.Core.Path.{_≡_, sym, ap}
 use Prim.Native.Nat.{ℕ, _*_, _/_, _%_, _<_}
 use lib.Bits.{bitXor}
 use lib.Pow.{shr-mod}
 use borrow.Author.Needs.{needs}
 use Rattle.remainder.specs.Remainder.{_⊕_, shift}
-use Rattle.mending.proofs.next.Statement.{statement}
-use Rattle.mending.proofs.next.Tie as tie
+use Rattle.mending_place.proofs.next.Statement.{statement}
+use Rattle.mending_place.proofs.next.Tie as tie
 
 mul-result : tie.Need-mul-result
 mul-result c = search needs

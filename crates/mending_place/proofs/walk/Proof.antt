@@ -1,4 +1,4 @@
--- `mending::place` meets its contract. The loop's invariant: w is the register that a flip of bit 4095 - i gives, and no bit past that gives q. Assumes nothing.
+-- `mending_place::walk` meets its contract. The loop's invariant: w is the register that a flip of bit 4095 - i gives, and no bit past that gives q. Assumes nothing.
 use mathlib.Core.Path.{_≡_, refl, sym, ap, _∙_}
 use Prim.Native.Nat.{ℕ, _+_, _-_, _≤_, _<_}
 use native.Mathlib.Decide.{decLt}
@@ -8,8 +8,8 @@ use Rattle.remainder.specs.Remainder.{_⊕_, shift}
 use Rattle.remainder.specs.Powers.{times}
 use Rattle.mending_rules.specs.Place.{Place}
 use Rattle.remainder.proofs.Shift.{times-add}
-use Rattle.mending.proofs.walk.Statement.{statement}
-use Rattle.mending.proofs.walk.Tie as tie
+use Rattle.mending_place.proofs.walk.Statement.{statement}
+use Rattle.mending_place.proofs.walk.Tie as tie
 
 abbrev Inv-loop : tie.InvT-loop
 Inv-loop q w₀ i₀ w i = (i ≤ 4096) × (w ≡ times (i + 1) 32768) × ((j : ℕ) → j < i → times (j + 1) 32768 ≡ q → ⊥)
