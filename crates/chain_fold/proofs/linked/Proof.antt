@@ -1,11 +1,11 @@
--- `chain::linked` meets its contract. Assumes nothing.
+-- `chain_fold::linked` meets its contract. Assumes nothing.
 use mathlib.Core.Path.{ap, ap₂, _∙_}
 use mathlib.Core.List.{List, _++_, map}
 use Prim.Native.Nat.{ℕ, _%_}
 use lib.ListN.{getD}
 use borrow.Author.Needs.{needs}
-use Rattle.chain.proofs.linked.Statement.{statement}
-use Rattle.chain.proofs.linked.Tie as tie
+use Rattle.chain_fold.proofs.linked.Statement.{statement}
+use Rattle.chain_fold.proofs.linked.Tie as tie
 
 array-read-partner-of : tie.Need-array-read-partner-of
 array-read-partner-of c = search needs

@@ -1,15 +1,15 @@
--- `chain::fold` meets its contract: a loop over the links. Assumes nothing.
+-- `chain_fold::fold` meets its contract: a loop over the links. Assumes nothing.
 use mathlib.Core.Path.{_≡_, refl, sym, _∙_, subst⁻¹}
 use Prim.Native.Nat.{_≤_, _-_}
 use lib.ListN.{length, take}
 use Rattle.chain.specs.Definition.{OneShuffle}
 use Rattle.chain.proofs.Judging.{unrefused}
 use Rattle.chain.proofs.Bytes.{Whole, whole-more, whole-all}
 use Rattle.chain.proofs.Theorems.{folds-into}
 use Rattle.chain.proofs.Folding.{Folding, starts, goes-on, ends, kept}
 use borrow.Author.Needs.{needs}
-use Rattle.chain.proofs.fold.Statement.{statement}
-use Rattle.chain.proofs.fold.Tie as tie
+use Rattle.chain_fold.proofs.fold.Statement.{statement}
+use Rattle.chain_fold.proofs.fold.Tie as tie
 
 abbrev Inv-loop : tie.InvT-loop
 Inv-loop links out refused current₀ k₀ k-end current k = (k ≤ k-end) × ((k-end ≡ length links) × (Folding links k current × Whole (take k links)))

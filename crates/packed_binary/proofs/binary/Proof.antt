@@ -1,8 +1,8 @@
--- `choice::packed_form::binary` meets its contract: each arm by its method's promise, at the number that led there. Assumes nothing.
+-- `packed_binary::binary` meets its contract: each arm by its method's promise, at the number that led there. Assumes nothing.
 use Rattle.standard.specs.Instruction.{table, instruction}
 use Rattle.families.proofs.Calls.{nothing}
-use Rattle.choice.proofs.packed_form.binary.Statement.{statement}
-use Rattle.choice.proofs.packed_form.binary.Tie as tie
+use Rattle.packed_binary.proofs.binary.Statement.{statement}
+use Rattle.packed_binary.proofs.binary.Tie as tie
 
 pub binary-spec : {M : Type 1} → statement M
 unfolding instruction table

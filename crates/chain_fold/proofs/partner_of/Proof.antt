@@ -1,8 +1,8 @@
--- `chain::partner_of` meets its contract. Assumes nothing.
+-- `chain_fold::partner_of` meets its contract. Assumes nothing.
 use borrow.Author.Needs.{needs}
 use Rattle.chain.proofs.Lists.{partner-itself}
-use Rattle.chain.proofs.partner_of.Statement.{statement}
-use Rattle.chain.proofs.partner_of.Tie as tie
+use Rattle.chain_fold.proofs.partner_of.Statement.{statement}
+use Rattle.chain_fold.proofs.partner_of.Tie as tie
 
 returns : tie.Need-returns
 returns c = search needs
