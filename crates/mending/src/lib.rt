@@ -7,8 +7,8 @@ ghost use lib.ListN.{length};
 ghost use Rattle.layout.specs.Definition.{blocks};
 ghost use Rattle.mending_rules.specs.Definition.{flipped, refused, done, mending};
 ghost use Rattle.mending.specs.Answer.{mending-of};
-use layout::judge::LENGTH;
-use layout::judge::is_whole;
+use layout::LENGTH;
+use layout::is_whole;
 use mending_place::NONE;
 use mending_place::place;
 
