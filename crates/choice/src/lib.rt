@@ -23,7 +23,7 @@ pub fn binary(op: u16, mark: u8, a: V128, b: V128) -> V128
     if mark == 0 {
         operation_binary::binary(op, a, b)
     } else {
-        packed_form::binary(op, a, b)
+        packed_binary::binary(op, a, b)
     }
 }
 

@@ -1,8 +1,8 @@
-// The packed forms: each half of a vector as one number. A step with no packed form is done lane by lane.
+// The packed forms of one vector, as `packed_binary` has those of two. A step with no packed form is done lane by lane.
 ghost use mathlib.Core.Path.{_≡_};
 ghost use Rattle.standard.specs.Instruction.{instruction};
 ghost use Rattle.simd.specs.Number.{number};
-ghost use Rattle.families.specs.Family.{as-unary, as-binary, as-shift, as-test};
+ghost use Rattle.families.specs.Family.{as-unary, as-shift, as-test};
 use operation::shift;
 use operation::test;
 use operation::test::truth;
@@ -19,28 +19,6 @@ pub fn unary(op: u16, a: V128) -> V128
         161 => packed_vector::i32x4_neg(a),
         193 => packed_vector::i64x2_neg(a),
         _ => unary::unary(op, a),
-    }
-}
-
-pub fn binary(op: u16, a: V128, b: V128) -> V128
-    ensures { λ r. ⌜ number r ≡ as-binary (instruction op) (number a) (number b) ⌝ }
-{
-    match op {
-        35 => packed_vector::i8x16_eq(a, b),
-        45 => packed_vector::i16x8_eq(a, b),
-        55 => packed_vector::i32x4_eq(a, b),
-        110 => packed_vector::i8x16_add(a, b),
-        113 => packed_vector::i8x16_sub(a, b),
-        123 => packed_vector::i8x16_avgr_u(a, b),
-        142 => packed_vector::i16x8_add(a, b),
-        145 => packed_vector::i16x8_sub(a, b),
-        155 => packed_vector::i16x8_avgr_u(a, b),
-        174 => packed_vector::i32x4_add(a, b),
-        177 => packed_vector::i32x4_sub(a, b),
-        206 => packed_vector::i64x2_add(a, b),
-        209 => packed_vector::i64x2_sub(a, b),
-        214 => packed_vector::i64x2_eq(a, b),
-        _ => operation_binary::binary(op, a, b),
     }
 }
 

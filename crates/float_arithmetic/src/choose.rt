@@ -2,8 +2,8 @@
 ghost use mathlib.Core.Path.{_≡_};
 ghost use lib.Ieee.{binary32, binary64};
 ghost use Rattle.float_arithmetic.specs.Choose.{arithmetic-of};
-use crate::binary32::*;
-use crate::binary64::*;
+use float_least::*;
+use float_sums::*;
 
 pub const ADD: u8 = 0;
 

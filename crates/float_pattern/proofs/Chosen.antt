@@ -2,11 +2,11 @@
 use mathlib.Core.Path.{_≡_, refl, sym, ap, _∙_, subst}
 use mathlib.Core.Bool.{Bool, true, false, not, cond, _&&_}
 use Prim.Native.Nat.{ℕ, zero, suc, _+_, _-_, _*_, _/_, _%_, _^_, _≤_, _<_, zero-le, compare, Ordering, Ordering·lt, Ordering·eq, Ordering·gt}
-use native.Mathlib.Nat.{le-refl, le-suc, le-of-eq, lt-of-le-of-lt, lt-irrefl, zero-lt-suc, add-zero, add-assoc, one-mul, le-div-iff-mul-le, mul-comm, mul-right-comm, mul-mod-left, mod-lt, mod-eq-of-lt, mod-one, div-one, div-eq-of-lt, div-eq-of-lt-le, div-add-mod', mul-add-div-right, mul-div-cancel, eq-of-mul-eq-mul-right, pow-succ'}
+use native.Mathlib.Nat.{le-refl, le-suc, le-of-eq, lt-of-le-of-lt, lt-irrefl, zero-lt-suc, add-zero, add-assoc, one-mul, mul-comm, mul-right-comm, mul-mod-left, mod-lt, mod-eq-of-lt, mod-one, div-one, div-eq-of-lt, div-eq-of-lt-le, div-add-mod', mul-add-div-right, mul-div-cancel, eq-of-mul-eq-mul-right, pow-succ'}
 use native.Mathlib.Omega.{arith}
 use lib.Dec.{T, isLe, isEq, ltb, eqb, lt→ltb, ltb→lt, nltb→le, leb→le, nleb→lt, eqb→eq, eqb-refl, lit<}
 use lib.Arith.{lt-of-le-ne, le→nltb}
-use lib.Pow.{pow-pos, pow-mono, shl-exact}
+use lib.Pow.{pow-pos, shl-exact}
 use lib.Ieee.{nearest}
 use lib.Ieee.Fits.{nearest-le, eq→eqb}
 use lib.Ieee.Bits.{is-true, is-false}
@@ -200,8 +200,15 @@ one-shifted w j h = shl-exact {a = 1} 1 j w (lit< tt) h' ∙ one-mul (2 ^ j)
     h' : 1 + j ≤ w
     h' = omega arith
 
-pub half-some : (j : ℕ) → 0 < j → 1 ≤ 2 ^ j / 2
-half-some j J = le-div-iff-mul-le (zero-lt-suc 1) .1 (pow-mono J)
+pub half-ones : (j : ℕ) → (2 ^ j - 1) / 2 ≡ 2 ^ j / 2 - 1
+half-ones zero = refl
+half-ones (suc j) = go (2 ^ suc j) (2 ^ j) (pow-succ' 2 j) (pow-pos j)
+  where
+    go : (c h : ℕ) → c ≡ 2 * h → 0 < h → (c - 1) / 2 ≡ c / 2 - 1
+    go c h e H = omega arith
+
+pub within : (even away : Bool) (n j : ℕ) → j < 64 → lift even away (n / 2 ^ (j % 64)) (2 ^ (j % 64)) ≡ lift even away (n / 2 ^ j) (2 ^ j)
+within even away n j h = ap (λ (x : ℕ). lift even away (n / 2 ^ x) (2 ^ x)) (mod-eq-of-lt h)
 
 pub lift-le : (even away : Bool) (q j : ℕ) → lift even away q (2 ^ j) ≤ 2 ^ j
 lift-le true away q j = go (2 ^ j) q (pow-pos j)

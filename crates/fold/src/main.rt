@@ -103,7 +103,7 @@ fn main() {
     let count = links_in(n);
     let links = links_of(bytes);
     let mut indices = [0u8; 16];
-    let refused = chain::fold(&links[..count], &mut indices);
+    let refused = chain_fold::fold(&links[..count], &mut indices);
     if !write(refused, indices) {
         os::fail(b"fold: standard output");
     }

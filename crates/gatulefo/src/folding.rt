@@ -10,5 +10,5 @@ pub extern "C" fn gatulefo_fold(links: &[[u8; 17]], out: &mut [u8; 16]) -> u8
     ensures { λ r. ⌜ r ≡ refusal (now (links .entry)) ⌝ }
     ensures { λ r. ⌜ now (out .exit) ≡ left r (folded (now (links .entry))) (now (out .entry)) ⌝ }
 {
-    chain::fold(links, out)
+    chain_fold::fold(links, out)
 }

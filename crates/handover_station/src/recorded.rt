@@ -1,10 +1,10 @@
 // What comes back of the recorder and of a replay.
 ghost use mathlib.Core.Path.{_≡_};
 ghost use Rattle.records.specs.Answer.{recorded-of};
-ghost use Rattle.trace.specs.Answer.{answer-of};
+ghost use Rattle.trace_compare.specs.Answer.{answer-of};
 ghost use Rattle.handover_station.specs.Recording.{recorder-numbers, record-numbers, replayed, replay-numbers};
 use records::Recorded;
-use trace::Answer;
+use trace_compare::Answer;
 
 // How many bytes were written. None where the list has no step, the recording would overflow the buffer, or the list is refused: the number, 1; else 0.
 #[repr(C)]

@@ -1,2 +1,1 @@
 pub mod Lanewise
-pub mod LanewiseFloat

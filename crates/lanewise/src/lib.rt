@@ -1,7 +1,5 @@
 // A lane operation by its number: what a loop over lanes is told in place of the Rust's closure. The number is a constant wherever a loop is
 // called, so the compiler leaves nothing of the choice.
-pub mod float;
-
 ghost use mathlib.Core.Path.{_≡_};
 ghost use mathlib.Core.Bool.{cond};
 ghost use lib.ListN.{take};
@@ -92,13 +90,13 @@ fn pick16(t: bool, a: u16, b: u16) -> u16
     if t { a } else { b }
 }
 
-pub fn pick32(t: bool, a: u32, b: u32) -> u32
+fn pick32(t: bool, a: u32, b: u32) -> u32
     ensures { λ r. ⌜ r ≡ cond t a b ⌝ }
 {
     if t { a } else { b }
 }
 
-pub fn pick64(t: bool, a: u64, b: u64) -> u64
+fn pick64(t: bool, a: u64, b: u64) -> u64
     ensures { λ r. ⌜ r ≡ cond t a b ⌝ }
 {
     if t { a } else { b }

@@ -2,8 +2,8 @@
 // put back, up to the first that can not be mended. On standard error a line for each bit put back, and one for the block at which it stopped.
 use libc::STDERR_FILENO;
 use libc::STDOUT_FILENO;
-use mending::NONE;
 use mending::mend;
+use mending_place::NONE;
 
 fn say(bytes: &[u8]) {
     io::write_all(STDERR_FILENO, bytes);

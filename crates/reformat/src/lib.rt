@@ -4,10 +4,10 @@ ghost use mathlib.Core.Path.{_≡_};
 ghost use mathlib.Core.List.{_∷_, [], map};
 ghost use Rattle.standard.specs.Lanes.{joined, lowHalf};
 ghost use Rattle.reformat.specs.Reformat.{format32-of, format64-of, low-of, zero-of};
-use float_conversion::cast::*;
-use float_conversion::integral::*;
-use float_conversion::saturate::*;
-use float_conversion::whole::*;
+use float_integral::*;
+use float_narrow::*;
+use float_saturate::*;
+use float_widen::*;
 
 pub const CEIL: u8 = 0;
 

@@ -2,7 +2,7 @@
 // its step, or which is the first that is not, counted from 1, or why the file is no recording.
 use libc::STDERR_FILENO;
 use libc::STDOUT_FILENO;
-use trace::Answer;
+use trace_compare::Answer;
 
 fn put(bytes: &[u8]) -> bool {
     io::write_all(STDOUT_FILENO, bytes)

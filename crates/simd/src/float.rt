@@ -6,7 +6,7 @@ ghost use Rattle.standard.specs.Lanes.{unary, binary};
 ghost use Rattle.simd.specs.Number.{number};
 use crate::V128;
 use float_arithmetic::choose::*;
-use lanewise::float::*;
+use lanewise_float::*;
 
 impl V128 {
     pub fn f32x4_eq(self, rhs: V128) -> V128

@@ -24,7 +24,7 @@ ghost use Rattle.standard.specs.Lanes.{digits, joined, lanes, unary, binary, sp
 ghost use Rattle.standard.specs.Refusal.{at-lane};
 ghost use Rattle.float_arithmetic.specs.Choose.{arithmetic-of};
 ghost use Rattle.lanewise.specs.Lanewise.{unaries, unaries8, unaries16, unaries32, binaries, binaries16, binaries32, unary-of, binary-of};
-ghost use Rattle.lanewise.specs.LanewiseFloat.{float-unary-of, float-binary-of};
+ghost use Rattle.lanewise_float.specs.LanewiseFloat.{float-unary-of, float-binary-of};
 ghost use Rattle.simd.specs.Number.{number};
 ghost use Rattle.simd.specs.Answer.{vector-answer};
 use answer::LANE;
@@ -324,7 +324,7 @@ impl V128 {
     {
         let mut a = self.places32();
         for i in 0..64 {
-            a[i] = lanewise::float::float_unary32(op, a[i]);
+            a[i] = lanewise_float::float_unary32(op, a[i]);
         }
         V128::from_places32(a)
     }
@@ -335,7 +335,7 @@ impl V128 {
         let mut a = self.places32();
         let b = rhs.places32();
         for i in 0..64 {
-            a[i] = lanewise::float::float_binary32(op, a[i], b[i]);
+            a[i] = lanewise_float::float_binary32(op, a[i], b[i]);
         }
         V128::from_places32(a)
     }
@@ -498,8 +498,8 @@ impl V128 {
         ensures { λ r. ⌜ number r ≡ unary 64 (float-unary-of binary64 op) (number self) ⌝ }
     {
         V128 {
-            lo: lanewise::float::float_unary64(op, self.lo),
-            hi: lanewise::float::float_unary64(op, self.hi),
+            lo: lanewise_float::float_unary64(op, self.lo),
+            hi: lanewise_float::float_unary64(op, self.hi),
         }
     }
 
@@ -507,8 +507,8 @@ impl V128 {
         ensures { λ r. ⌜ number r ≡ binary 64 (float-binary-of binary64 op) (number self) (number rhs) ⌝ }
     {
         V128 {
-            lo: lanewise::float::float_binary64(op, self.lo, rhs.lo),
-            hi: lanewise::float::float_binary64(op, self.hi, rhs.hi),
+            lo: lanewise_float::float_binary64(op, self.lo, rhs.lo),
+            hi: lanewise_float::float_binary64(op, self.hi, rhs.hi),
         }
     }
 

@@ -37,7 +37,7 @@ returns c =
     let a = c .before .before .before .before .before .before .before .args in
     let file = now (a .file) in
     let more = c .before .before .before .loop-test .taken in
-    let stop = ends (block file (l .k)) (c .before .place .result) (c .before .place .ensures) (c .if1 .taken) in
+    let stop = ends (block file (l .k)) (c .before .place .result) (c .before .place .ensures (search needs)) (c .if1 .taken) in
     ended file (l .k) true (l .bits) (l .out) (now (a .out)) (sym (no-more file (blocks file) (l .k) more stop) ∙ l .inv .5) (sym (lt-ltb (l .k) (blocks file) more)) (l .inv .6) (l .inv .7)
 
 loop-again : tie.Need-loop-again Inv-loop μ-loop
@@ -48,7 +48,7 @@ loop-again c =
     let a = p .before .before .before .before .before .before .before .before .before .before .args in
     let file = now (a .file) in
     let more = p .before .before .before .before .before .before .loop-test .taken in
-    let m = mends (block file (l .k)) (i .before .place .result) (i .before .place .ensures) (i .if1 .left) in
+    let m = mends (block file (l .k)) (i .before .place .result) (i .before .place .ensures (search needs)) (i .if1 .left) in
     let long : 512 * (l .k + 1) ≤ length file = omega arith in (
       refl,
       omega arith,

@@ -24,24 +24,27 @@ filled rs n i h =
     ap (λ (j : ℕ). getD (rs ++ replicate n 0) j 0) (let e : i ≡ length rs + (i - length rs) = omega arith in e)
     ∙ getD-append-add rs (replicate n 0) (i - length rs) 0 ∙ zero-at n (i - length rs)
 
+counted : (n : ℕ) → n ≤ 448 → n / 64 % 256 ≡ n / 64
+counted n h = omega arith
+
 returns : tie.Need-returns
-returns c = rw (c .match .keys1) (omega arith)
+returns c h l = rw (c .match .keys1) (omega arith)
 
 returns-2 : tie.Need-returns-2
-returns-2 c = rw (c .match .keys2) (omega arith)
+returns-2 c h l = rw (c .match .keys2) (omega arith)
 
 returns-3 : tie.Need-returns-3
-returns-3 c = rw (c .match .keys3)
+returns-3 c h l = rw (c .match .keys3) (counted _ l)
 
 returns-5 : tie.Need-returns-5
-returns-5 c =
+returns-5 c h l =
     let a = c .before .before .before .args in
     let rs = now (a .records) in
     sym (past (a .k % 256) (a .k / 256 % 256) (length rs / 64) 0 (rs ++ replicate (506 - length rs) 0) (a .i) (omega arith)
     ∙ List·getD-append rs (replicate (506 - length rs) 0) 0 (a .i - 4) (c .before .if1 .taken))
 
 returns-6 : tie.Need-returns-6
-returns-6 c =
+returns-6 c h l =
     let a = c .before .before .args in
     let rs = now (a .records) in
     sym (past (a .k % 256) (a .k / 256 % 256) (length rs / 64) 0 (rs ++ replicate (506 - length rs) 0) (a .i) (omega arith)
@@ -50,4 +53,4 @@ returns-6 c =
 pub byte-at-spec : {M : Type 1} → statement M
 byte-at-spec =
     tie.close
-    (tie.spec (λ c. search needs) (λ c. search needs) (λ c. search needs) (λ c. search needs) returns returns-2 returns-3 (λ c. rw (c .match .keys4)) returns-5 returns-6)
+    (tie.spec (λ c. search needs) (λ c. search needs) (λ c. search needs) (λ c. search needs) returns returns-2 returns-3 (λ c h l. rw (c .match .keys4)) returns-5 returns-6)

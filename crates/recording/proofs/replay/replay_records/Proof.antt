@@ -14,9 +14,9 @@ use Rattle.rules.specs.Definition.{start}
 use Rattle.rules.proofs.Shapes.{nothing}
 use Rattle.state.specs.State.{held}
 use Rattle.trace.specs.Definition.{agrees, compared}
-use Rattle.trace.specs.Answer.{answer-of}
-use Rattle.trace.specs.declared.Answer.{Answer}
-use Rattle.trace.proofs.Answer.{the-type}
+use Rattle.trace_compare.specs.Answer.{answer-of}
+use Rattle.trace_compare.specs.declared.Answer.{Answer}
+use Rattle.trace_compare.proofs.Answer.{the-type}
 use Rattle.layout.specs.Definition.{record-at}
 use Rattle.records.specs.Definition.{replay-from}
 use Rattle.records.proofs.Accounts.{replay-end, replay-turn, replay-stop}

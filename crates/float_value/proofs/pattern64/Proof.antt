@@ -1,0 +1,18 @@
+-- `float_value::pattern64` meets its contract. Assumes nothing.
+use borrow.Author.Needs.{needs}
+use lib.Ieee.{binary64}
+use Rattle.standard.proofs.Nan.{nan-written, is-number}
+use Rattle.float_value.proofs.pattern64.Statement.{statement}
+use Rattle.float_value.proofs.pattern64.Tie as tie
+
+float-to-bits-result : tie.Need-float-to-bits-result
+float-to-bits-result c = is-number _ (c .if1 .left)
+
+returns : tie.Need-returns
+returns c = nan-written binary64 _ (c .if1 .taken)
+
+returns-2 : tie.Need-returns-2
+returns-2 c = search needs
+
+pub pattern64-spec : {M : Type 1} → statement M
+pattern64-spec = tie.close (tie.spec float-to-bits-result returns returns-2)
