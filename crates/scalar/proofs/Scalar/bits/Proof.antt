@@ -1,4 +1,4 @@
--- `operation::scalar::Scalar::bits` meets its contract, by the promise of its kind. Assumes nothing.
+-- `scalar::Scalar::bits` meets its contract, by the promise of its kind. Assumes nothing.
 use mathlib.Core.Path.{_≡_}
 use mir.Syntax.{w32, w64}
 use mir.Val.{toZ, ofZ}

@@ -1,4 +1,4 @@
--- `operation::scalar::Scalar::of_bits` meets its contract: the bits, read as signed and back. Assumes nothing.
+-- `scalar::Scalar::of_bits` meets its contract: the bits, read as signed and back. Assumes nothing.
 use mathlib.Core.Path.{_≡_}
 use mir.Syntax.{w32}
 use mir.Val.{Fits}
