@@ -1,5 +1,7 @@
 // What becomes of one block of a recording (document 02, order 10): which bit is put back, none, or that no bit mends it.
 ghost use mathlib.Core.Path.{_≡_};
+ghost use mathlib.Core.Bool.{cond};
+ghost use lib.Dec.{eqb};
 ghost use lib.ListN.{length};
 ghost use Rattle.remainder.specs.Remainder.{shift};
 ghost use Rattle.mending_rules.specs.Definition.{mended};
@@ -33,10 +35,13 @@ fn walk(q: u16) -> u16
     4096
 }
 
-// What becomes of a block: the bit to put back, NONE, or BEYOND. Nothing is said of a slice that is no block of 512 bytes.
+// What becomes of a block: the bit to put back, NONE, or BEYOND. Bytes that are not 512 are no block, and can not be mended.
 pub fn place(b: &[u8]) -> u16
-    ensures { λ r. ⌜ (length (now (b .entry)) ≡ 512 → r ≡ number-of (mended (now (b .entry)))) ⌝ }
+    ensures { λ r. ⌜ r ≡ cond (eqb (length (now (b .entry))) 512) (number-of (mended (now (b .entry)))) 4097 ⌝ }
 {
+    if b.len() != 512 {
+        return BEYOND;
+    }
     let q = check(b);
     if q == 0 {
         return NONE;

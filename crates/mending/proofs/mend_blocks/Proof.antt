@@ -1,20 +1,26 @@
 -- `mending::mend_blocks` meets its contract. Assumes nothing.
 use denote.Ref.{now}
 use mathlib.Core.Path.{_≡_, refl, sym, _∙_}
-use mathlib.Core.Bool.{true, false}
-use mathlib.Core.List.{_++_}
-use Prim.Native.Nat.{_+_, _-_, _*_, _≤_}
+use mathlib.Core.Bool.{true, false, cond}
+use mathlib.Core.List.{List, _++_}
+use Prim.Native.Nat.{ℕ, _+_, _-_, _*_, _≤_}
 use native.Mathlib.Nat.{sub-zero, zero-add}
 use native.Mathlib.Omega.{arith}
+use lib.Dec.{eqb}
 use lib.ListN.{length, drop, replicate}
 use borrow.Rule.Slice.PartMut.{same-len-mid}
-use borrow.Author.Tests.{lt-ltb, le-ltb}
+use borrow.Author.Tests.{eq-eqb, lt-ltb, le-ltb}
 use borrow.Author.Needs.{needs}
 use Rattle.layout.specs.Definition.{blocks, block}
-use Rattle.mending_rules.specs.Definition.{written, blocks-from, bits-from}
+use Rattle.mending_rules.specs.Definition.{mended, written, blocks-from, bits-from}
+use Rattle.mending_rules.specs.Place.{number-of}
 use Rattle.mending_rules.proofs.Files.{mends, ends, block-put, bit-put, one-more, no-more, none-left, ended}
 use Rattle.mending.proofs.mend_blocks.Statement.{statement}
 use Rattle.mending.proofs.mend_blocks.Tie as tie
+
+-- a block has 512 bytes
+of-block : (b : List ℕ) {r : ℕ} → length b ≡ 512 → r ≡ cond (eqb (length b) 512) (number-of (mended b)) 4097 → r ≡ number-of (mended b)
+of-block b h e = e ∙ rw (eq-eqb (length b) 512 h)
 
 abbrev Inv-loop : tie.InvT-loop
 Inv-loop file out₀ n bits₀ k₀ out bits k =
@@ -37,7 +43,7 @@ returns c =
     let a = c .before .before .before .before .before .before .before .args in
     let file = now (a .file) in
     let more = c .before .before .before .loop-test .taken in
-    let stop = ends (block file (l .k)) (c .before .place .result) (c .before .place .ensures (search needs)) (c .if1 .taken) in
+    let stop = ends (block file (l .k)) (c .before .place .result) (of-block (block file (l .k)) (search needs) (c .before .place .ensures)) (c .if1 .taken) in
     ended file (l .k) true (l .bits) (l .out) (now (a .out)) (sym (no-more file (blocks file) (l .k) more stop) ∙ l .inv .5) (sym (lt-ltb (l .k) (blocks file) more)) (l .inv .6) (l .inv .7)
 
 loop-again : tie.Need-loop-again Inv-loop μ-loop
@@ -48,7 +54,7 @@ loop-again c =
     let a = p .before .before .before .before .before .before .before .before .before .before .args in
     let file = now (a .file) in
     let more = p .before .before .before .before .before .before .loop-test .taken in
-    let m = mends (block file (l .k)) (i .before .place .result) (i .before .place .ensures (search needs)) (i .if1 .left) in
+    let m = mends (block file (l .k)) (i .before .place .result) (of-block (block file (l .k)) (search needs) (i .before .place .ensures)) (i .if1 .left) in
     let long : 512 * (l .k + 1) ≤ length file = omega arith in (
       refl,
       omega arith,

@@ -3,6 +3,7 @@ use denote.Ref.{now}
 use mathlib.Core.Path.{_≡_, sym, _∙_}
 use lib.ListN.{length}
 use borrow.Author.Needs.{needs}
+use borrow.Author.Tests.{eq-eqb, ne-eqb}
 use Rattle.mending_rules.proofs.Blocks.{Block, stays, turns, fails}
 use Rattle.mending_place.proofs.place.Statement.{statement}
 use Rattle.mending_place.proofs.place.Tie as tie
@@ -11,23 +12,31 @@ known : (c : tie.After-shared-slice-known) → length (now (c .before .args .b))
 known c h = record { long = h; bytes = λ i. c .shared-slice-known .given i .fits }
 
 returns : tie.Need-returns
-returns c h =
-    let k = c .before .before in
-    stays (now (k .before .args .b)) (known k h) (sym (c .before .check .ensures) ∙ c .if1 .taken)
+returns c = rw (ne-eqb _ _ (c .if1 .taken))
 
 returns-2 : tie.Need-returns-2
-returns-2 c h =
-    let k = c .before .before .before .before in
-    turns (now (k .before .args .b)) (known k h) (c .before .before .before .check .result) (c .before .walk .result) (c .before .before .before .check .ensures) (c .before .before .if1 .left)
-    (c .before .walk .ensures) (c .if2 .taken)
+returns-2 c =
+    let i = c .before .before in
+    let k = i .before in
+    rw (eq-eqb _ _ (i .if1 .left)) (stays (now (k .before .args .b)) (known k (i .if1 .left)) (sym (c .before .check .ensures) ∙ c .if2 .taken))
 
 returns-3 : tie.Need-returns-3
-returns-3 c h =
-    let k = c .before .before .before .before in
-    fails (now (k .before .args .b)) (known k h) (c .before .before .before .check .result) (c .before .walk .result) (c .before .before .before .check .ensures) (c .before .before .if1 .left)
-    (c .before .walk .ensures) (c .if2 .left)
+returns-3 c =
+    let i = c .before .before .before .before in
+    let k = i .before in
+    rw (eq-eqb _ _ (i .if1 .left))
+    (turns (now (k .before .args .b)) (known k (i .if1 .left)) (c .before .before .before .check .result) (c .before .walk .result) (c .before .before .before .check .ensures) (c .before .before .if2 .left)
+    (c .before .walk .ensures) (c .if3 .taken))
+
+returns-4 : tie.Need-returns-4
+returns-4 c =
+    let i = c .before .before .before .before in
+    let k = i .before in
+    rw (eq-eqb _ _ (i .if1 .left))
+    (fails (now (k .before .args .b)) (known k (i .if1 .left)) (c .before .before .before .check .result) (c .before .walk .result) (c .before .before .before .check .ensures) (c .before .before .if2 .left)
+    (c .before .walk .ensures) (c .if3 .left))
 
 pub place-spec : {M : Type 1} → statement M
 place-spec =
     tie.close
-    (tie.spec (λ c κs. search needs) returns (λ c κs. search needs) returns-2 returns-3)
+    (tie.spec returns (λ c κs. search needs) returns-2 (λ c κs. search needs) returns-3 returns-4)
