@@ -1,22 +1,15 @@
 -- `simd::V128::v128_bitselect` meets its contract. Assumes nothing.
-use borrow.Author.Needs.{needs}
+use mathlib.Core.Path.{ap, ap₂, _∙_}
+use Rattle.standard.specs.Integer.{iand, ior}
+use Rattle.simd.specs.Number.{number}
 use Rattle.simd.proofs.V128.v128_bitselect.Statement.{statement}
 use Rattle.simd.proofs.V128.v128_bitselect.Tie as tie
 
-v128-and-requires : tie.Need-v128-and-requires
-v128-and-requires c κs = search needs
-
-v128-not-requires : tie.Need-v128-not-requires
-v128-not-requires c κs = search needs
-
-v128-and-requires-2 : tie.Need-v128-and-requires-2
-v128-and-requires-2 c κs = search needs
-
-v128-or-requires : tie.Need-v128-or-requires
-v128-or-requires c κs = search needs
-
 returns : tie.Need-returns
-returns c = cc
+returns c =
+    let before = c .before .before .before in
+    c .v128-or .ensures
+    ∙ ap₂ (ior 128) (before .v128-and .ensures) (c .before .v128-and2 .ensures ∙ ap (iand 128 (number (before .before .args .v2))) (c .before .before .v128-not .ensures))
 
 pub v128-bitselect-spec : {M : Type 1} → statement M
-v128-bitselect-spec = tie.close (tie.spec v128-and-requires v128-not-requires v128-and-requires-2 v128-or-requires returns)
+v128-bitselect-spec = tie.close (tie.spec (λ c κs. tt) (λ c κs. tt) (λ c κs. tt) (λ c κs. tt) returns)
