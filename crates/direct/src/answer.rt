@@ -11,7 +11,7 @@ use simd::answer::I32Answer;
 use simd::answer::I64Answer;
 use simd::answer::U32Answer;
 use simd::answer::VectorAnswer;
-use stores::StoreAnswer;
+use store_answer::StoreAnswer;
 
 // No such function here, or no request to answer.
 const NONE: u8 = 255;

@@ -7,7 +7,7 @@ ghost use mathlib.Core.Path.{_≡_};
 ghost use Rattle.simd.specs.Answer.{vector-answer, i32-answer, u32-answer, i64-answer};
 ghost use Rattle.simd.specs.Number.{number};
 ghost use Rattle.loads.specs.Answer.{load-answer};
-ghost use Rattle.stores.specs.Answer.{store-answer};
+ghost use Rattle.store_answer.specs.Answer.{store-answer};
 ghost use Rattle.handover.specs.Answer.{pair, or-zero, access-numbers, access-or-zero, store-numbers};
 use bounds::PAST;
 use lane::reinterpret::unsigned32;
@@ -18,7 +18,7 @@ use simd::answer::I32Answer;
 use simd::answer::I64Answer;
 use simd::answer::U32Answer;
 use simd::answer::VectorAnswer;
-use stores::StoreAnswer;
+use store_answer::StoreAnswer;
 
 // The bits of a lane; or the number of a refusal, 4, and the bits are 0.
 #[repr(C)]

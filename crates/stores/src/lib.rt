@@ -2,15 +2,12 @@
 // address alone and share one private function. A lane store tests the lane, 4, before the bounds, 7. With each 7 goes the shortfall (document 02,
 // order 9).
 ghost use mathlib.Core.Path.{_≡_};
-ghost use mathlib.Core.List.{List};
-ghost use Prim.Native.Nat.{ℕ, _+_};
+ghost use Prim.Native.Nat.{_+_};
 ghost use Rattle.standard.specs.Memory.{store, store-lane, stored};
 ghost use Rattle.bounds.specs.Bounds.{effective};
-ghost use Rattle.access.specs.Access.{put-answer};
 ghost use Rattle.simd.specs.Number.{number};
-ghost use Rattle.stores.specs.Answer.{store-answer};
+ghost use Rattle.store_answer.specs.Answer.{store-answer};
 use access::Effective;
-use access::Put;
 use access::put8;
 use access::put16;
 use access::put32;
@@ -18,24 +15,8 @@ use access::put64;
 use access::put128;
 use simd::V128;
 use simd::answer::LANE;
-
-// What it wrote is in the memory that it was lent; or the number of a refusal, for a lane that is not below the lane count; or the shortfall of an access
-// past the end.
-pub enum StoreAnswer {
-    Done,
-    Refused(u8),
-    Past(u64),
-}
-
-// The answer of a store; the memory is what the store left.
-fn answered(p: Put) -> StoreAnswer
-    ensures { λ r. ⌜ ((after : List ℕ) → store-answer r after ≡ put-answer p after) ⌝ }
-{
-    match p {
-        Put::Done => StoreAnswer::Done,
-        Put::Past(short) => StoreAnswer::Past(short),
-    }
-}
+use store_answer::StoreAnswer;
+use store_answer::answered;
 
 fn store_to(memory: &mut [u8], ea: Effective, value: V128) -> StoreAnswer
     ensures { λ r. ⌜ store-answer r (now (memory .exit)) ≡ stored (store 16 (number value) (now (memory .entry)) (effective ea)) (now (memory .entry)) ⌝ }

@@ -2,7 +2,7 @@
 use Prim.Native.Nat.{ℕ}
 use mathlib.Core.List.{List}
 use Rattle.standard.specs.Memory.{Stored, written, kept, kept-past}
-use Rattle.stores.specs.declared.StoreAnswer.{StoreAnswer}
+use Rattle.store_answer.specs.declared.StoreAnswer.{StoreAnswer}
 
 abbrev pub store-answer : StoreAnswer → List ℕ → Stored
 store-answer StoreAnswer.Done after = written after

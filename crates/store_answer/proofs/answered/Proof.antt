@@ -1,8 +1,8 @@
--- `stores::answered` meets its contract. Assumes nothing.
+-- `store_answer::answered` meets its contract. Assumes nothing.
 use borrow.Author.Needs.{needs}
 use mathlib.Core.Path.{refl}
-use Rattle.stores.proofs.answered.Statement.{statement}
-use Rattle.stores.proofs.answered.Tie as tie
+use Rattle.store_answer.proofs.answered.Statement.{statement}
+use Rattle.store_answer.proofs.answered.Tie as tie
 
 enum-told : tie.Need-enum-told
 enum-told c = search needs

@@ -5,8 +5,8 @@ use mathlib.Core.List.{List}
 use Prim.Native.Nat.{ℕ}
 use native.Mathlib.Omega.{arith}
 use Rattle.standard.specs.Memory.{written, kept, kept-past}
-use Rattle.stores.specs.declared.StoreAnswer.{StoreAnswer}
-use Rattle.stores.specs.Answer.{store-answer}
+use Rattle.store_answer.specs.declared.StoreAnswer.{StoreAnswer}
+use Rattle.store_answer.specs.Answer.{store-answer}
 
 -- a store has written, or it is refused, with a shortfall or without
 kept-or-written : {X : Type 0} {n : ℕ} {l m : List ℕ} → written l ≡ kept n m → X
