@@ -18,42 +18,11 @@ use crate::request::Request;
 use crate::shift;
 use crate::splat;
 use crate::widen;
-use simd::V128;
 
 // A packed form has its function's number plus this.
 const PACKED: u16 = 512;
 
-// Arithmetic and conversions of one or two vectors, lane by lane.
-fn computed(f: u16, a: V128, b: V128) -> Answer {
-    match f {
-        22..=33 => arithmetic::sum_or_product(f, a, b),
-        34..=42 => arithmetic::saturating(f, a, b),
-        43..=56 => arithmetic::least_or_greatest(f, a, b),
-        61..=64 | 69..=76 => float::arithmetic(f, a, b),
-        65..=68 => float::chosen(f, a, b),
-        77..=84 | 86 => arithmetic::unary(f, a),
-        87..=90 => float::sign(f, a),
-        93..=100 => convert::rounded(f, a),
-        _ => convert::convert(f, a),
-    }
-}
-
-// Comparisons, lanes of another width and reductions of one or two vectors.
-fn compared_or_widened(f: u16, a: V128, b: V128) -> Answer {
-    match f {
-        105..=116 => compare::equality(f, a, b),
-        117..=134 => compare::less(f, a, b),
-        135..=152 => compare::greater(f, a, b),
-        153..=158 | 162..=167 => widen::extend(f, a),
-        168..=179 => widen::extended_product(f, a, b),
-        180..=183 => widen::pairwise_sum(f, a),
-        196..=199 | 212 => widen::narrow_or_dot(f, a, b),
-        203..=211 => reduce::reduce(f, a),
-        _ => computed(f, a, b),
-    }
-}
-
-// Functions without memory, lane by lane. A part for each kind of operands: one match on all numbers, beside a whole request, is dear to check.
+// Functions without memory, lane by lane.
 fn plain(r: Request, indices: [u8; 16]) -> Answer {
     let f = r.function;
     let a = r.a;
@@ -64,11 +33,28 @@ fn plain(r: Request, indices: [u8; 16]) -> Answer {
         6..=13 => lanes::extract(f, a, r.lane),
         14..=19 => lanes::replace(f, a, r.lane, r.scalar),
         20..=21 => rearrange::rearrange(f, a, b, indices),
+        22..=33 => arithmetic::sum_or_product(f, a, b),
+        34..=42 => arithmetic::saturating(f, a, b),
+        43..=56 => arithmetic::least_or_greatest(f, a, b),
         57..=60 | 85 | 215 => bitwise::bitwise(f, a, b, c),
+        61..=64 | 69..=76 => float::arithmetic(f, a, b),
+        65..=68 => float::chosen(f, a, b),
+        77..=84 | 86 => arithmetic::unary(f, a),
+        87..=90 => float::sign(f, a),
+        93..=100 => convert::rounded(f, a),
+        101..=104 | 159..=161 | 200..=202 => convert::convert(f, a),
+        105..=116 => compare::equality(f, a, b),
+        117..=134 => compare::less(f, a, b),
+        135..=152 => compare::greater(f, a, b),
+        153..=158 | 162..=167 => widen::extend(f, a),
+        168..=179 => widen::extended_product(f, a, b),
+        180..=183 => widen::pairwise_sum(f, a),
         184..=195 => shift::shift(f, a, r.count),
+        196..=199 | 212 => widen::narrow_or_dot(f, a, b),
+        203..=211 => reduce::reduce(f, a),
         213..=214 | 272..=281 => relaxed::relaxed(f, a, b, c),
         232..=233 | 254..=259 => widen::widen_bits(f, r.scalar),
-        _ => compared_or_widened(f, a, b),
+        _ => Answer::none(),
     }
 }
 
