@@ -154,6 +154,20 @@ fn by_columns(
     among(buffer, end, count % 8, marker, tolerance, frame)
 }
 
+// The one position of a buffer that has no more bits than a frame and a marker.
+fn only(buffer: &[u8], marker: u32, tolerance: u32, frame: usize) -> Answer
+    requires { ⌜ 64 ≤ frame ⌝ }
+    requires { ⌜ 8 * length (now buffer) ≡ frame + 32 ⌝ }
+    ensures { λ r. ⌜ answer-of r ≡ first-from (bits (now (buffer .entry))) (mark marker) tolerance frame 1 0 ⌝ }
+{
+    let first = apart(word_at(buffer, 0), 0, marker);
+    if first > tolerance {
+        return Answer::Refused(windows::NONE);
+    }
+    let second = apart(word_at(buffer, buffer.len() - 8), 32, marker);
+    windows::judged(0, first, second, tolerance)
+}
+
 // The positions that are searched by words.
 fn early(positions: usize) -> usize
     ensures { λ r. ⌜ r ≡ min positions 9216 ⌝ }
@@ -169,6 +183,9 @@ fn search(buffer: &[u8], marker: u32, tolerance: u32, frame: usize) -> Answer
     ensures { λ r. ⌜ answer-of r ≡ first-from (bits (now (buffer .entry))) (mark marker) tolerance frame (suc (8 * length (now (buffer .entry)) - (frame + 32))) 0 ⌝ }
 {
     let positions = 8 * buffer.len() - frame - 31;
+    if positions == 1 {
+        return only(buffer, marker, tolerance, frame);
+    }
     let words = early(positions);
     let answer = by_words(buffer, words, marker, tolerance, frame);
     if words == positions {
