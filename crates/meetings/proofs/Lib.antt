@@ -1,0 +1,3 @@
+pub mod Laws
+pub mod Members
+pub mod Theorems
