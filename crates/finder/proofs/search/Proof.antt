@@ -63,6 +63,9 @@ returns-3 c =
     (among-the-first _ _ _ _ (c .before .before .before .before .early .result) (suc (8 * length (given .buffer .now) - (given .frame + 32))) 0 (omega arith)
     (rw told at (c .before .before .before .by-words .ensures)))
 
+columns-requires : tie.Need-columns-requires
+columns-requires c κs = search needs
+
 sub-by-columns : tie.Need-sub-by-columns
 sub-by-columns c = search needs
 
@@ -71,15 +74,15 @@ by-columns-requires c κs = search needs
 
 returns-4 : tie.Need-returns-4
 returns-4 c =
-    let given = c .before .before .before .before .before .before .before .before .args in
-    let words = c .before .before .before .before .before .early .result in
-    let told = c .before .enum-told .given in
+    let given = c .before .before .before .before .before .before .before .before .before .before .args in
+    let words = c .before .before .before .before .before .before .before .early .result in
+    let told = c .before .before .before .enum-told .given in
     let left = ap (λ (n : ℕ). n - words) (positions-are (8 * length (given .buffer .now)) (given .frame) (omega arith)) in
-    let early = c .before .before .before .before .before .early .ensures in
-    let place = at-a-byte _ words early (c .before .before .before .if2 .left) in
-    c .by-columns .ensures
+    let early = c .before .before .before .before .before .before .before .early .ensures in
+    let place = at-a-byte _ words early (c .before .before .before .before .before .if2 .left) in
+    c .by-columns .ensures (c .before .before .columns .ensures)
     ∙ sym (passed _ _ _ _ words (suc (8 * length (given .buffer .now) - (given .frame + 32))) 0 (no-more _ (given .frame) words (omega arith) early) left place refl (told .0 .0)
-    (rw (told .1) at (c .before .before .before .before .by-words .ensures)))
+    (rw (told .1) at (c .before .before .before .before .before .before .by-words .ensures)))
 
 pub search-spec : {M : Type 1} → statement M
 search-spec =
@@ -96,6 +99,7 @@ search-spec =
     enum-told
     enum-told-2
     returns-3
+    columns-requires
     sub-by-columns
     by-columns-requires
     returns-4)
