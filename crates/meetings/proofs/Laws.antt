@@ -96,15 +96,15 @@ module _ (m : List ℕ) (t L : ℕ) where
           let count : length s - (L + 31) ≡ c + (length (drop c s) - (L + 31)) = simp length-drop (omega arith) in
           let first : length (take (c + (L + 31)) s) - (L + 31) ≡ c = omega (arith, length-take-le (c + (L + 31)) s long) in
           let before : all-from s m t L c 0 ≡ all-from (take (c + (L + 31)) s) m t L c 0 =
-              agree s (take (c + (L + 31)) s) 0 c 0
-              (λ q a b.
-                  rw (zero-add q)
-                  (ap (λ (z : List ℕ). window z q) (sym (take-append-drop (c + (L + 31)) s))
-                  ∙ window-before (take (c + (L + 31)) s) (drop (c + (L + 31)) s) q (omega (arith, length-take-le (c + (L + 31)) s long))))
-              ∙ shift-zero _
+          agree s (take (c + (L + 31)) s) 0 c 0
+          (λ q a b.
+          rw (zero-add q)
+          (ap (λ (z : List ℕ). window z q) (sym (take-append-drop (c + (L + 31)) s))
+          ∙ window-before (take (c + (L + 31)) s) (drop (c + (L + 31)) s) q (omega (arith, length-take-le (c + (L + 31)) s long))))
+          ∙ shift-zero _
           in
           let after : all-from s m t L (length (drop c s) - (L + 31)) (0 + c) ≡ shift c (all-from (drop c s) m t L (length (drop c s) - (L + 31)) 0) =
-              rw (zero-add c) (rw (add-zero c) at (agree s (drop c s) c (length (drop c s) - (L + 31)) 0 (λ q a b. sym (window-after s c q))))
+          rw (zero-add c) (rw (add-zero c) at (agree s (drop c s) c (length (drop c s) - (L + 31)) 0 (λ q a b. sym (window-after s c q))))
           in
           rw (count, first) (parts s c (length (drop c s) - (L + 31)) 0 ∙ ap₂ (λ (x y : List Meeting). x ++ y) before after)
 

@@ -32,14 +32,14 @@ module _ (s m : List ℕ) (t L : ℕ) where
       by true st rest =
           ⊎-elim
           (λ (same : met q d e ≡ met p (distance (window s p) m) (distance (window s (p + L)) m)).
-              let here : q ≡ p = cc in
-              record {
-                low = omega arith;
-                high = omega arith;
-                meets = rw here st;
-                first = rw here (cc);
-                second = rw here (cc);
-              })
+          let here : q ≡ p = cc in
+          record {
+            low = omega arith;
+            high = omega arith;
+            meets = rw here st;
+            first = rw here (cc);
+            second = rw here (cc);
+          })
           (λ later. let r = rest later in record { low = omega (arith, r .low); high = omega (arith, r .high); meets = r .meets; first = r .first; second = r .second })
           (List·Memᴰ·cases-cons (rw st at h))
       by false st rest =
@@ -104,9 +104,9 @@ module _ (s m : List ℕ) (t L : ℕ) where
           sym (rw (add-zero k) at
           (agree m t L s (take (w + (L + 31)) (drop k s)) k (suc n) 0
           (λ q a b.
-              sym (window-after s k q)
-              ∙ ap (λ (z : List ℕ). window z q) (sym (take-append-drop (w + (L + 31)) (drop k s)))
-              ∙ window-before (take (w + (L + 31)) (drop k s)) (drop (w + (L + 31)) (drop k s)) q (omega arith))))
+          sym (window-after s k q)
+          ∙ ap (λ (z : List ℕ). window z q) (sym (take-append-drop (w + (L + 31)) (drop k s)))
+          ∙ window-before (take (w + (L + 31)) (drop k s)) (drop (w + (L + 31)) (drop k s)) q (omega arith))))
 
   -- A segment's meetings are exactly the whole's at the segment's own positions.
   pub segment-member : (k w p d e : ℕ) → List·Memᴰ (met p d e) (segment s m t L k w)
@@ -148,7 +148,7 @@ module _ (s m : List ℕ) (t L : ℕ) where
   merged-member [] p d e h = absurd (List·Memᴰ·not-nil h)
   merged-member (kw ∷ rest) p d e h =
       ⊎-elim
-      (λ first. let r = segment-member (kw .0) (kw .1) p d e first in (r .0, inl (r .1 , r .2)))
+      (λ first. let r = segment-member (kw .0) (kw .1) p d e first in (r .0, inl (r .1, r .2)))
       (λ later. let r = merged-member rest p d e later in (r .0, inr (r .1)))
       (List·Memᴰ·append-cases (segment s m t L (kw .0) (kw .1)) h)
 

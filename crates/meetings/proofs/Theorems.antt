@@ -1,14 +1,16 @@
 -- What a station can rely on, over the definition alone. Assumes nothing.
 use mathlib.Core.Path.{_≡_, refl, sym, ap, _∙_}
-use mathlib.Core.Bool.{Bool, true, false}
+use mathlib.Core.Bool.{Bool, true, false, cond}
 use mathlib.Core.List.{List, [], _∷_, _++_, append-assoc, append-nil}
 use Prim.Native.Nat.{ℕ, zero, suc, _+_, _-_, _≤_, zero-le}
 use native.Mathlib.Omega.{arith}
+use borrow.Author.Tests.{ne-eqb}
+use lib.Dec.{ltb}
 use lib.ListN.{length, take, drop, length-drop}
 use lib.Seq.{drop-drop}
 use Rattle.windows.specs.Definition.{bits, mark, window, distance, stands, refusal, first-from, find}
 use Rattle.windows.proofs.Refusals.{admitted, find-searched}
-use Rattle.meetings.specs.Meetings.{Meeting, met, all-from, places, meetings, shift, segment, first-of}
+use Rattle.meetings.specs.Meetings.{Meeting, met, all-from, places, meetings, shift, segment, first-of, barred, any, ending}
 use Rattle.meetings.proofs.Laws.{shift-none, shift-zero, shift-shift, shift-append, cut, carry}
 
 -- pieces, one after the other
@@ -123,3 +125,14 @@ all-rising s m t L (suc n) p = by (stands s m t L p) refl (all-rising s m t L n 
 pub rising : (s m : List ℕ) (t L : ℕ) → Rising 0 (meetings s m t L)
 unfolding meetings
 rising s m t L = all-rising s m t L (places L (length s)) 0
+
+-- ---- what a scan ends with
+
+-- 8 and 9 are given whatever the capture
+pub ends-barred : {n : ℕ} (s m : List ℕ) (t L : ℕ) → n ≡ barred t L → (n ≡ 0 → ⊥) → n ≡ ending s m t L
+unfolding ending
+ends-barred s m t L e h = rw (← e) (rw (ne-eqb _ 0 h))
+
+pub ends-open : (s m : List ℕ) (t L : ℕ) → barred t L ≡ 0 → ending s m t L ≡ cond (ltb (length s) (L + 32)) 10 (cond (any (meetings s m t L)) 0 11)
+unfolding ending
+ends-open s m t L e = rw e
