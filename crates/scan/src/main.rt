@@ -73,15 +73,11 @@ fn put(out: &mut [u8], at: usize, bytes: &[u8]) -> usize {
 }
 
 // A distance is at most 8.
-fn put_distance(out: &mut [u8], at: usize, distance: u32) -> usize {
-    if out.len() <= at {
-        return at;
-    }
+fn digit(distance: u32) -> u8 {
     if distance > 9 {
-        return at;
+        return b'?';
     }
-    out[at] = 48 + distance as u8;
-    at + 1
+    48 + distance as u8
 }
 
 // All twenty places, of which the first count.
@@ -140,13 +136,28 @@ fn line(
     first: u32,
     second: u32,
 ) -> usize {
+    let mut distances = [
+        b' ',
+        b'd',
+        b'i',
+        b's',
+        b't',
+        b'a',
+        b'n',
+        b'c',
+        b'e',
+        b's',
+        b' ',
+        b'0',
+        b' ',
+        b'0',
+        b'\n',
+    ];
+    distances[11] = digit(first);
+    distances[13] = digit(second);
     let at = put(out, at, b"position ");
     let at = put_digits(out, at, text, digits);
-    let at = put(out, at, b" distances ");
-    let at = put_distance(out, at, first);
-    let at = put(out, at, b" ");
-    let at = put_distance(out, at, second);
-    put(out, at, b"\n")
+    put(out, at, &distances)
 }
 
 fn flushed(out: &[u8], held: usize) -> bool {
