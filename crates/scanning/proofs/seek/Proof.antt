@@ -8,7 +8,6 @@ use lib.ListN.{length, take}
 use lib.Seq.{length-take-le}
 use Rattle.windows.specs.Definition.{bits, mark, found, first-from}
 use Rattle.columns.specs.Columns.{Columns}
-use Rattle.scanning.specs.State.{Stands}
 use Rattle.scanning.proofs.Standing.{head-of, told-met, told-more, told-end}
 use Rattle.scanning.proofs.seek.Statement.{statement}
 use Rattle.scanning.proofs.seek.Tie as tie
@@ -51,21 +50,21 @@ enum-known-p c = search needs
 -- what the finder has found
 heard : (c : tie.After-known-told)
     → let given = c .before .before .before .before .before .before .before .before .before .before .args in
-    (X : List ℕ) → Stands (given .frame) X (given .window .now) (given .scan) → Columns (given .marker) (given .tolerance) (given .table .now)
+    64 ≤ given .frame → given .scan .from + (given .frame + 31) ≤ 8 * length (take (given .scan .filled) (given .window .now))
+    → Columns (given .marker) (given .tolerance) (given .table .now)
     → first-from (bits (take (given .scan .filled) (given .window .now))) (mark (given .marker)) (given .tolerance) (given .frame)
     (8 * length (take (given .scan .filled) (given .window .now)) - (given .frame + 31) - given .scan .from) (given .scan .from)
     ≡ found (c .before .p .given .0 .0) (c .before .p .given .0 .1 .0) (c .before .p .given .0 .1 .1 .0)
-heard c X s made =
+heard c frame room made =
     let given = c .before .before .before .before .before .before .before .before .before .before .args in
     let size = length-take-le (given .scan .filled) (given .window .now) (omega arith) in
-    sym (rw (c .before .p .given .1) at
-    (c .before .before .before .next .ensures (s .frame) (omega arith) (omega (arith, s .all, s .reached)) made))
+    sym (rw (c .before .p .given .1) at (c .before .before .before .next .ensures frame (omega arith) room made))
 
 returns-5 : tie.Need-returns-5
 returns-5 c = λ X s made.
     let given = c .before .before .before .before .before .before .before .before .before .before .before .args in
     let size = length-take-le (given .scan .filled) (given .window .now) (omega arith) in
-    absurd (omega (arith, head-of (mark (given .marker)) (given .tolerance) (given .frame) _ _ _ _ _ _ (heard (c .before) X s made) .high))
+    absurd (omega (arith, head-of (mark (given .marker)) (given .tolerance) (given .frame) _ _ _ _ _ _ (heard (c .before) (s .frame) (omega (arith, s .all, s .reached)) made) .high))
 
 mul-t22 : tie.Need-mul-t22
 mul-t22 c = search needs
@@ -83,7 +82,7 @@ returns-6 : tie.Need-returns-6
 returns-6 c = λ X s made.
     let given = c .before .before .before .before .before .before .before .before .before .before .before .args in
     let size = length-take-le (given .scan .filled) (given .window .now) (omega arith) in
-    told-met (given .marker) (given .tolerance) (given .frame) X (given .window .now) (given .scan) s _ _ _ _ (omega arith) (heard (c .before) X s made)
+    told-met (given .marker) (given .tolerance) (given .frame) X (given .window .now) (given .scan) s _ _ _ _ (omega arith) (heard (c .before) (s .frame) (omega (arith, s .all, s .reached)) made)
 
 returns-7 : tie.Need-returns-7
 returns-7 c = λ X s made.
