@@ -6,11 +6,11 @@ use native.Mathlib.Omega.{arith}
 use lib.ListN.{length, take}
 use Rattle.windows.specs.Definition.{bits, mark}
 use Rattle.meetings.specs.Meetings.{Meeting, met, all-from, places, meetings}
-use Rattle.scanning.specs.State.{place, Stands, given, Told, Taken}
-use Rattle.scanning.specs.declared.Scan.{Scan}
-use Rattle.scanning.specs.declared.Next.{Next}
-use Rattle.scanning.specs.declared.Fed.{Fed}
-use Rattle.scanning.proofs.Standing.{grown}
+use Rattle.history.specs.State.{place, Stands, given, Told, Taken}
+use Rattle.history.specs.declared.Scan.{Scan}
+use Rattle.history.specs.declared.Next.{Next}
+use Rattle.history.specs.declared.Fed.{Fed}
+use Rattle.history.proofs.Standing.{grown}
 
 -- The capture that has come, the window, the state, and the meetings that were given, after any calls: each step has what the function's contract ensures.
 pub data Session (m t L : ℕ) : List ℕ → List ℕ → Scan → List Meeting → Type 0 where

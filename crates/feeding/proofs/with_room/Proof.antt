@@ -1,10 +1,10 @@
--- `scanning::with_room` meets its contract. Assumes nothing.
+-- `feeding::with_room` meets its contract. Assumes nothing.
 use mathlib.Core.Path.{refl}
 use mathlib.Core.Logic.{inl, inr}
 use native.Mathlib.Omega.{arith}
 use borrow.Author.Needs.{needs}
-use Rattle.scanning.proofs.with_room.Statement.{statement}
-use Rattle.scanning.proofs.with_room.Tie as tie
+use Rattle.feeding.proofs.with_room.Statement.{statement}
+use Rattle.feeding.proofs.with_room.Tie as tie
 
 sub-if2 : tie.Need-sub-if2
 sub-if2 c = search needs

@@ -1,11 +1,11 @@
--- `scanning::feed` meets its contract. Assumes nothing.
+-- `feeding::feed` meets its contract. Assumes nothing.
 use Prim.Native.Nat.{zero-le}
 use mathlib.Core.Logic.{⊎-elim}
 use native.Mathlib.Omega.{arith}
 use borrow.Author.Needs.{needs}
-use Rattle.scanning.proofs.Standing.{fed}
-use Rattle.scanning.proofs.feed.Statement.{statement}
-use Rattle.scanning.proofs.feed.Tie as tie
+use Rattle.history.proofs.Standing.{fed}
+use Rattle.feeding.proofs.feed.Statement.{statement}
+use Rattle.feeding.proofs.feed.Tie as tie
 
 with-room-requires : tie.Need-with-room-requires
 with-room-requires c κs = search needs

@@ -10,9 +10,9 @@ use lib.Seq.{drop-at, drop-drop, length-take-le, take-at, drop-append-le, paste,
 use Rattle.windows.specs.Definition.{bits, mark, window, distance, Answer, found, refused, stands, first-from}
 use Rattle.windows.proofs.Bits.{bits-append, length-bits}
 use Rattle.meetings.specs.Meetings.{Meeting, met, all-from, places, meetings, shift, first-of}
-use Rattle.scanning.specs.State.{place, Stands, given, Told, Kept, Taken}
-use Rattle.scanning.specs.declared.Scan.{Scan}
-use Rattle.scanning.specs.declared.Next.{Next}
+use Rattle.history.specs.State.{place, Stands, given, Told, Kept, Taken}
+use Rattle.history.specs.declared.Scan.{Scan}
+use Rattle.history.specs.declared.Next.{Next}
 use Rattle.meetings.proofs.Laws.{shift-zero, window-before, window-after, parts, agree}
 use Rattle.meetings.proofs.Theorems.{first-is}
 

@@ -1,9 +1,9 @@
--- `scanning::make_room` meets its contract. Assumes nothing.
+-- `feeding::make_room` meets its contract. Assumes nothing.
 use native.Mathlib.Omega.{arith}
 use borrow.Author.Needs.{needs}
-use Rattle.scanning.proofs.Standing.{slid}
-use Rattle.scanning.proofs.make_room.Statement.{statement}
-use Rattle.scanning.proofs.make_room.Tie as tie
+use Rattle.history.proofs.Standing.{slid}
+use Rattle.feeding.proofs.make_room.Statement.{statement}
+use Rattle.feeding.proofs.make_room.Tie as tie
 
 returns : tie.Need-returns
 returns c = (λ L X s. absurd (omega (arith, s .inside)), λ L X s. absurd (omega (arith, s .inside)))

@@ -1,4 +1,4 @@
--- `scanning::seek` meets its contract. Assumes nothing.
+-- `seeking::seek` meets its contract. Assumes nothing.
 use Prim.Native.Nat.{ℕ, _+_, _*_, _-_, _<_, _≤_}
 use mathlib.Core.Path.{_≡_, sym, _∙_}
 use mathlib.Core.List.{List}
@@ -8,9 +8,9 @@ use lib.ListN.{length, take}
 use lib.Seq.{length-take-le}
 use Rattle.windows.specs.Definition.{bits, mark, found, first-from}
 use Rattle.columns.specs.Columns.{Columns}
-use Rattle.scanning.proofs.Standing.{head-of, told-met, told-more, told-end}
-use Rattle.scanning.proofs.seek.Statement.{statement}
-use Rattle.scanning.proofs.seek.Tie as tie
+use Rattle.history.proofs.Standing.{head-of, told-met, told-more, told-end}
+use Rattle.seeking.proofs.seek.Statement.{statement}
+use Rattle.seeking.proofs.seek.Tie as tie
 
 returns : tie.Need-returns
 returns c = λ X s made. absurd (omega (arith, s .inside))

@@ -5,9 +5,9 @@ use mathlib.Core.List.{List, [], _∷_, _++_}
 use lib.ListN.{length, take, drop}
 use Rattle.windows.specs.Definition.{bits, mark}
 use Rattle.meetings.specs.Meetings.{Meeting, met, all-from, places, meetings}
-use Rattle.scanning.specs.declared.Scan.{Scan}
-use Rattle.scanning.specs.declared.Next.{Next}
-use Rattle.scanning.specs.declared.Fed.{Fed}
+use Rattle.history.specs.declared.Scan.{Scan}
+use Rattle.history.specs.declared.Next.{Next}
+use Rattle.history.specs.declared.Fed.{Fed}
 
 -- the position of the capture that is searched next
 abbrev pub place : Scan → ℕ
