@@ -1,6 +1,6 @@
 -- `finder::among` meets its contract: what a search from the position reached gives is the answer. Assumes nothing.
 use Prim.Native.Nat.{ℕ, _+_, _*_, _-_, _/_, _≤_}
-use mathlib.Core.Path.{_≡_, sym, _∙_}
+use mathlib.Core.Path.{_≡_, refl, sym, _∙_}
 use mathlib.Core.Logic.{⊎-elim}
 use native.Mathlib.Omega.{arith}
 use borrow.Author.Needs.{needs}
@@ -11,12 +11,12 @@ use Rattle.finder.proofs.among.Statement.{statement}
 use Rattle.finder.proofs.among.Tie as tie
 
 abbrev Inv-loop : tie.InvT-loop
-Inv-loop buffer at count marker tolerance frame here end later start k₀ k =
+Inv-loop buffer at skip count marker tolerance frame here end later start k₀ k =
     (k ≤ count)
-    × (first-from (bits buffer) (mark marker) tolerance frame count (8 * at) ≡ first-from (bits buffer) (mark marker) tolerance frame (count - k) (8 * at + k))
+    × (first-from (bits buffer) (mark marker) tolerance frame (count - skip) (8 * at + skip) ≡ first-from (bits buffer) (mark marker) tolerance frame (count - k) (8 * at + k))
 
 abbrev μ-loop : tie.MeasureT-loop
-μ-loop buffer at count marker tolerance frame here end later start k₀ k = count - k
+μ-loop buffer at skip count marker tolerance frame here end later start k₀ k = count - k
 
 word-at-requires : tie.Need-word-at-requires Inv-loop μ-loop
 word-at-requires c κs = search needs
@@ -55,11 +55,7 @@ sub-start : tie.Need-sub-start Inv-loop μ-loop
 sub-start c = search needs
 
 loop-holds : tie.Need-loop-holds Inv-loop μ-loop
-loop-holds c =
-    let given = c .before .before .before .args in
-    let all : given .count - 0 ≡ given .count = omega arith in
-    let start : 8 * given .at + 0 ≡ 8 * given .at = omega arith in
-    (search needs, rw (all, start))
+loop-holds c = (search needs, refl)
 
 apart-requires : tie.Need-apart-requires Inv-loop μ-loop
 apart-requires c κs = search needs

@@ -23,7 +23,7 @@ search-requires : tie.Need-search-requires
 search-requires c κs =
     let given = c .before .before .before .args in
     let fit = admitted (given .buffer .now) (given .tolerance) (given .length) (none c) in
-    (fit .shortest, (omega (arith, fit .room, length-bits (given .buffer .now)), fit .size))
+    (fit .shortest, (omega (arith, fit .room, length-bits (given .buffer .now)), omega (arith, fit .size)))
 
 returns-2 : tie.Need-returns-2
 returns-2 c =

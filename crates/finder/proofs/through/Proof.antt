@@ -1,6 +1,7 @@
 -- `finder::through` meets its contract: what a search from the position reached gives is the answer. Assumes nothing.
 use Prim.Native.Nat.{_+_, _*_, _-_}
 use mathlib.Core.Path.{_≡_, refl, sym, _∙_}
+use native.Mathlib.Nat.{add-zero, sub-zero}
 use native.Mathlib.Omega.{arith}
 use borrow.Author.Needs.{needs}
 use Rattle.windows.specs.Definition.{bits, mark, first-from}
@@ -33,7 +34,7 @@ returns c =
     let loop = c .before .before .before .before .loop in
     let told = c .enum-told2 .given .1 in
     rw told
-    (among-the-first _ _ _ _ 16 (loop .left) (8 * loop .at) (omega arith) (rw told at (c .before .before .among .ensures)) ∙ sym (loop .inv .1))
+    (among-the-first _ _ _ _ 16 (loop .left) (8 * loop .at) (omega arith) (rw (add-zero (8 * loop .at), told) at (c .before .before .among .ensures)) ∙ sym (loop .inv .1))
 
 add-at : tie.Need-add-at Inv-loop μ-loop
 add-at c = search needs
@@ -48,13 +49,15 @@ loop-again : tie.Need-loop-again Inv-loop μ-loop
 loop-again c =
     let loop = c .before .before .before .before .loop in
     let told = c .enum-told .given in
-    (omega arith, passed _ _ _ _ 16 (loop .left) (8 * loop .at) (omega arith) refl (omega arith) (loop .inv .1) (told .0 .0) (rw (told .1) at (c .before .before .among .ensures)))
+    (omega arith, passed _ _ _ _ 16 (loop .left) (8 * loop .at) (omega arith) refl (omega arith) (loop .inv .1) (told .0 .0) (rw (add-zero (8 * loop .at), told .1) at (c .before .before .among .ensures)))
 
 among-requires-2 : tie.Need-among-requires-2 Inv-loop μ-loop
 among-requires-2 c κs = search needs
 
 returns-2 : tie.Need-returns-2 Inv-loop μ-loop
-returns-2 c = c .among2 .ensures ∙ sym (c .before .before .loop .inv .1)
+returns-2 c =
+    let loop = c .before .before .loop in
+    rw (add-zero (8 * loop .at), sub-zero (loop .left)) at (c .among2 .ensures) ∙ sym (loop .inv .1)
 
 pub through-spec : {M : Type 1} → statement M
 through-spec =

@@ -1,0 +1,4 @@
+pub mod Laws
+pub mod Members
+pub mod Theorems
+pub mod Reading

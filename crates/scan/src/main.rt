@@ -1,0 +1,643 @@
+// The program `scan`: every position of the capture on standard input at which the marker of its first argument is met, within the tolerance of its second and
+// with frames of as many bits as its third says. With two arguments more, the positions of one segment: standard input is the capture from the byte of the
+// fourth argument on, and the positions are those that begin in as many bytes as the fifth says.
+ghost use Prim.Native.Nat.{_≤_};
+ghost use mathlib.Core.Path.{_≡_};
+ghost use lib.ListN.{length};
+ghost use Rattle.io.specs.Counts.{Counts};
+use arguments::Numeral;
+use libc::STDERR_FILENO;
+use libc::STDIN_FILENO;
+use libc::STDOUT_FILENO;
+use scanning::Next;
+use scanning::Scan;
+use std::num::wrapping_add_u8;
+use std::num::wrapping_sub_u8;
+use std::num::wrapping_sub_u64;
+
+// How many bytes a capture may have.
+const CAPTURE: u64 = 1152921504606846976;
+
+struct Task {
+    marker: u32,
+    tolerance: u32,
+    length: u32,
+    // The segment's first byte in the capture, and how many it has.
+    from: u64,
+    count: u64,
+}
+
+enum Asked {
+    For(Task),
+    Badly,
+}
+
+enum Bytes {
+    Number(u64),
+    None,
+}
+
+const GOES_ON: u8 = 0;
+
+const ENDED: u8 = 1;
+
+const FAILED: u8 = 2;
+
+const SEARCHED: u8 = 3;
+
+// How far the scan has come: how much text waits to be written, the last position in it and how many digits that has, and whether more is to be read. Nothing
+// was met where there are no digits.
+struct Course {
+    scan: Scan,
+    held: usize,
+    position: u64,
+    digits: usize,
+    state: u8,
+}
+
+// Puts bytes behind others. A line always has room, and what has none is left out.
+fn put(out: &mut [u8], at: usize, bytes: &[u8]) -> usize {
+    let n = bytes.len();
+    if out.len() < at {
+        return at;
+    }
+    if out.len() - at < n {
+        return at;
+    }
+    let mut i = 0;
+    while i < n {
+        out[at + i] = bytes[i];
+        i += 1;
+    }
+    at + n
+}
+
+// A distance is at most 8.
+fn digit(distance: u32) -> u8 {
+    if distance > 9 {
+        return b'?';
+    }
+    48 + distance as u8
+}
+
+// All twenty places, of which the first count.
+fn put_digits(out: &mut [u8], at: usize, text: &[u8; 20], digits: usize) -> usize {
+    if out.len() < at {
+        return at;
+    }
+    if out.len() - at < 20 {
+        return at;
+    }
+    if digits > 20 {
+        return at;
+    }
+    for i in 0..20 {
+        out[at + i] = text[i];
+    }
+    at + digits
+}
+
+// Adds less than ten to a number of so many digits; false where it has too few.
+fn add(text: &mut [u8; 20], digits: usize, number: u8) -> bool {
+    if digits > 20 {
+        return false;
+    }
+    let mut more = number;
+    let mut i = digits;
+    while i > 0 {
+        i -= 1;
+        let sum = wrapping_add_u8(text[i], more);
+        if sum <= b'9' {
+            text[i] = sum;
+            return true;
+        }
+        text[i] = wrapping_sub_u8(sum, 10);
+        more = 1;
+    }
+    false
+}
+
+// The digits of a position, from those of the last: positions often follow each other.
+fn spell(text: &mut [u8; 20], digits: usize, last: u64, position: u64) -> usize {
+    let further = wrapping_sub_u64(position, last);
+    if further < 10 {
+        if add(text, digits, further as u8) {
+            return digits;
+        }
+    }
+    io::decimal(position, text)
+}
+
+fn line(
+    out: &mut [u8],
+    at: usize,
+    text: &[u8; 20],
+    digits: usize,
+    first: u32,
+    second: u32,
+) -> usize {
+    let mut distances = [
+        b' ',
+        b'd',
+        b'i',
+        b's',
+        b't',
+        b'a',
+        b'n',
+        b'c',
+        b'e',
+        b's',
+        b' ',
+        b'0',
+        b' ',
+        b'0',
+        b'\n',
+    ];
+    distances[11] = digit(first);
+    distances[13] = digit(second);
+    let at = put(out, at, b"position ");
+    let at = put_digits(out, at, text, digits);
+    put(out, at, &distances)
+}
+
+fn flushed(out: &[u8], held: usize) -> bool {
+    if out.len() < held {
+        return false;
+    }
+    let start = 0;
+    if !io::write_all(STDOUT_FILENO, &out[start..held]) {
+        os::fail(b"scan: standard output");
+        return false;
+    }
+    true
+}
+
+fn report(n: u8) {
+    if !(io::write_all(STDOUT_FILENO, b"refused ")
+        && io::print_decimal(STDOUT_FILENO, n as u64)
+        && io::write_all(STDOUT_FILENO, b"\n")) {
+        os::fail(b"scan: standard output");
+    }
+}
+
+// An argument of Linux has fewer than 131,072 bytes, so each comes whole, whatever zeros it begins with.
+fn decimal_at(i: usize) -> Numeral {
+    let mut text = [0u8; 131072];
+    let n = os::arg(i, &mut text);
+    arguments::decimal(&text[..n])
+}
+
+fn marker_at(i: usize) -> Numeral {
+    let mut text = [0u8; 8];
+    let n = os::arg(i, &mut text);
+    arguments::eight_hex_digits(&text[..n])
+}
+
+// Decimal digits alone, at least one, of a number of bytes that a capture may have.
+fn bytes_in(text: &[u8]) -> Bytes {
+    if text.len() == 0 {
+        return Bytes::None;
+    }
+    let mut value: u64 = 0;
+    let mut i = 0;
+    while i < text.len() {
+        let c = text[i];
+        if c < b'0' {
+            return Bytes::None;
+        }
+        if c > b'9' {
+            return Bytes::None;
+        }
+        let next = value * 10 + (c - b'0') as u64;
+        if next > CAPTURE {
+            return Bytes::None;
+        }
+        value = next;
+        i += 1;
+    }
+    Bytes::Number(value)
+}
+
+fn bytes_at(i: usize) -> Bytes {
+    let mut text = [0u8; 131072];
+    let n = os::arg(i, &mut text);
+    bytes_in(&text[..n])
+}
+
+fn smaller(a: u64, b: u64) -> u64
+    ensures { λ r. ⌜ (r ≤ a) × (r ≤ b) ⌝ }
+{
+    if a < b { a } else { b }
+}
+
+fn smallest(a: usize, b: usize) -> usize
+    ensures { λ r. ⌜ (r ≤ a) × (r ≤ b) ⌝ }
+{
+    if a < b { a } else { b }
+}
+
+// How many bytes a capture may have from one on.
+fn rest(from: u64) -> u64 {
+    if from < CAPTURE { CAPTURE - from } else { 0 }
+}
+
+// A whole capture, or a segment of one.
+fn read_segment(marker: u32, tolerance: u32, length: u32) -> Asked {
+    if os::arg_count() == 4 {
+        return Asked::For(Task {
+            marker,
+            tolerance,
+            length,
+            from: 0,
+            count: CAPTURE,
+        });
+    }
+    if os::arg_count() != 6 {
+        return Asked::Badly;
+    }
+    let Bytes::Number(from) = bytes_at(4) else {
+        return Asked::Badly;
+    };
+    let Bytes::Number(count) = bytes_at(5) else {
+        return Asked::Badly;
+    };
+    Asked::For(Task {
+        marker,
+        tolerance,
+        length,
+        from,
+        count: smaller(count, rest(from)),
+    })
+}
+
+fn read_arguments() -> Asked {
+    let Numeral::Number(marker) = marker_at(1) else {
+        return Asked::Badly;
+    };
+    let Numeral::Number(tolerance) = decimal_at(2) else {
+        return Asked::Badly;
+    };
+    let Numeral::Number(length) = decimal_at(3) else {
+        return Asked::Badly;
+    };
+    read_segment(marker, tolerance, length)
+}
+
+// The position in the capture of one in the segment.
+fn in_capture(position: u64, from: u64) -> u64 {
+    if position >= 8 * CAPTURE {
+        return position;
+    }
+    if from > CAPTURE {
+        return position;
+    }
+    8 * from + position
+}
+
+// The same with another state of the scan.
+fn with(course: Course, scan: Scan) -> Course {
+    Course {
+        scan,
+        held: course.held,
+        position: course.position,
+        digits: course.digits,
+        state: course.state,
+    }
+}
+
+// The same at another state.
+fn at_state(course: Course, state: u8) -> Course {
+    let scan = course.scan;
+    Course {
+        scan,
+        held: course.held,
+        position: course.position,
+        digits: course.digits,
+        state,
+    }
+}
+
+// The same with nothing that waits to be written.
+fn written(course: Course) -> Course {
+    let scan = course.scan;
+    Course {
+        scan,
+        held: 0,
+        position: course.position,
+        digits: course.digits,
+        state: course.state,
+    }
+}
+
+// Puts a line behind the others, which are written first where there is no room for it.
+fn put_line(
+    out: &mut [u8],
+    text: &mut [u8; 20],
+    course: Course,
+    position: u64,
+    first: u32,
+    second: u32,
+) -> Course {
+    let scan = course.scan;
+    let mut held = course.held;
+    let mut state = course.state;
+    if held > 65472 {
+        if !flushed(out, held) {
+            state = FAILED;
+        }
+        held = 0;
+    }
+    let digits = spell(text, course.digits, course.position, position);
+    held = line(out, held, text, digits, first, second);
+    Course {
+        scan,
+        held,
+        position,
+        digits,
+        state,
+    }
+}
+
+// Puts the line of a meeting that is of the segment.
+fn put_own(
+    out: &mut [u8],
+    text: &mut [u8; 20],
+    course: Course,
+    task: Task,
+    position: u64,
+    first: u32,
+    second: u32,
+) -> Course {
+    if position / 8 >= task.count {
+        return course;
+    }
+    let place = in_capture(position, task.from);
+    put_line(out, text, course, place, first, second)
+}
+
+// The next meeting in what has come, and its line; or that there is none.
+fn put_next<'a>(
+    window: &'a [u8],
+    table: &'a [u64; 1280],
+    out: &mut [u8],
+    text: &mut [u8; 20],
+    course: Course,
+    task: Task,
+) -> Course {
+    let scan = course.scan;
+    match scanning::seek(
+        window,
+        scan,
+        table,
+        task.marker,
+        task.tolerance,
+        task.length,
+    ) {
+        Next::Met(position, first, second, next) => put_own(
+            out,
+            text,
+            with(course, next),
+            task,
+            position,
+            first,
+            second,
+        ),
+        Next::More(next) => at_state(with(course, next), SEARCHED),
+    }
+}
+
+// Puts a line for each meeting in what has come that is of the segment. A window of so many bits has fewer meetings than bits.
+fn put_meetings<'a>(
+    window: &'a [u8],
+    table: &'a [u64; 1280],
+    out: &mut [u8],
+    text: &mut [u8; 20],
+    course: Course,
+    task: Task,
+) -> Course {
+    let mut course = at_state(course, GOES_ON);
+    let mut turns = 1114112usize;
+    while turns > 0 {
+        course = put_next(window, table, out, text, course, task);
+        if course.state != GOES_ON {
+            return course;
+        }
+        turns -= 1;
+    }
+    course
+}
+
+struct Reading {
+    bytes: usize,
+    failed: bool,
+}
+
+// How many bytes went on, and how far the scan then has come; none where it does not go on.
+struct Step {
+    bytes: usize,
+    course: Course,
+}
+
+fn stopped(course: Course, state: u8) -> Step
+    ensures { λ r. ⌜ r .bytes ≡ 0 ⌝ }
+{
+    let course = at_state(course, state);
+    Step { bytes: 0, course }
+}
+
+// Hands over as much of a piece as is taken, and puts the lines of what it brought.
+fn take<'a>(
+    window: &mut [u8],
+    piece: &'a [u8],
+    table: &'a [u64; 1280],
+    out: &mut [u8],
+    text: &mut [u8; 20],
+    course: Course,
+    task: Task,
+) -> Step
+    ensures { λ r. ⌜ r .bytes ≤ length (now (piece .entry)) ⌝ }
+{
+    let scan = course.scan;
+    let fed = scanning::feed(window, scan, piece);
+    let used = fed.used;
+    let next = fed.scan;
+    let course = put_meetings(window, table, out, text, with(course, next), task);
+    if course.state == FAILED {
+        return Step { bytes: 0, course };
+    }
+    Step {
+        bytes: used,
+        course,
+    }
+}
+
+// Hands a piece on, as far as each call took it.
+fn hand_on<'a>(
+    window: &mut [u8],
+    piece: &'a [u8],
+    table: &'a [u64; 1280],
+    out: &mut [u8],
+    text: &mut [u8; 20],
+    course: Course,
+    task: Task,
+) -> Course {
+    let mut course = course;
+    let mut at = 0;
+    while at < piece.len() {
+        let step = take(window, &piece[at..], table, out, text, course, task);
+        let bytes = step.bytes;
+        let next = step.course;
+        if bytes == 0 {
+            return at_state(next, FAILED);
+        }
+        course = next;
+        at += bytes;
+    }
+    course
+}
+
+// One read, which takes what there is, of at most as many bytes as are wanted.
+fn read_once(piece: &mut [u8], wanted: usize) -> Reading
+    ensures { λ r. ⌜ Counts (r .bytes) (now (piece .exit)) ⌝ }
+    ensures { λ r. ⌜ r .bytes ≤ wanted ⌝ }
+{
+    let start = 0;
+    let most = smallest(wanted, piece.len());
+    let got = libc::read(STDIN_FILENO, &mut piece[start..most]);
+    let failed = got < 0;
+    if failed {
+        os::fail(b"scan: standard input");
+    }
+    let bytes = io::count(got, &piece[start..most]);
+    Reading { bytes, failed }
+}
+
+// How many bytes decide: those of the segment and what a frame and a marker take beyond them.
+fn deciding(task: Task) -> usize {
+    let tail = (task.length as u64 + 38) / 8;
+    let count = smaller(task.count, CAPTURE);
+    smaller(count + tail, rest(task.from)) as usize
+}
+
+// Writes what was found, since a read may wait, and hands on what the next read brings.
+fn turn<'a>(
+    window: &mut [u8],
+    piece: &mut [u8],
+    table: &'a [u64; 1280],
+    out: &mut [u8],
+    text: &mut [u8; 20],
+    course: Course,
+    task: Task,
+    left: usize,
+) -> Step
+    ensures { λ r. ⌜ r .bytes ≤ left ⌝ }
+{
+    if !flushed(out, course.held) {
+        return stopped(course, FAILED);
+    }
+    let course = written(course);
+    let reading = read_once(piece, left);
+    let n = reading.bytes;
+    if reading.failed {
+        return stopped(course, FAILED);
+    }
+    if n == 0 {
+        return stopped(course, ENDED);
+    }
+    let course = hand_on(window, &piece[..n], table, out, text, course, task);
+    if course.state == FAILED {
+        return Step { bytes: 0, course };
+    }
+    Step { bytes: n, course }
+}
+
+// Reads what decides, and no more.
+fn run<'a>(
+    window: &mut [u8],
+    piece: &mut [u8],
+    table: &'a [u64; 1280],
+    out: &mut [u8],
+    text: &mut [u8; 20],
+    task: Task,
+) -> Course {
+    let mut course = begun();
+    let mut left = deciding(task);
+    while left > 0 {
+        let step = turn(window, piece, table, out, text, course, task, left);
+        let bytes = step.bytes;
+        let next = step.course;
+        course = next;
+        if bytes == 0 {
+            return course;
+        }
+        left -= bytes;
+    }
+    course
+}
+
+// The number of the last line. A segment that begins inside the capture and has no position is not a capture that is too short.
+fn last(course: Course, task: Task) -> u8 {
+    let scan = course.scan;
+    let before = scan.before;
+    let filled = scan.filled as u64;
+    let from = task.from;
+    let n = scanning::end(scan, task.tolerance, task.length, course.digits > 0);
+    if n != 10 {
+        return n;
+    }
+    if before > CAPTURE {
+        return n;
+    }
+    if filled > CAPTURE {
+        return n;
+    }
+    if from > CAPTURE {
+        return n;
+    }
+    if from + before + filled < (task.length as u64 + 39) / 8 {
+        10
+    } else {
+        11
+    }
+}
+
+fn finish(out: &[u8], course: Course, task: Task) {
+    if course.state == FAILED {
+        return;
+    }
+    if flushed(out, course.held) {
+        report(last(course, task));
+    }
+}
+
+fn begun() -> Course {
+    Course {
+        scan: scanning::start(),
+        held: 0,
+        position: 0,
+        digits: 0,
+        state: GOES_ON,
+    }
+}
+
+fn main() {
+    let Asked::For(task) = read_arguments() else {
+        io::write_all(
+            STDERR_FILENO,
+            b"scan: expected a marker of eight hex digits, a tolerance and a frame length in decimal, both below 4294967296; for a segment also its first byte and how many it has\n",
+        );
+        return;
+    };
+    let refused = scanning::refusal(task.tolerance, task.length);
+    if refused != 0 {
+        report(refused);
+        return;
+    }
+    let table = columns::columns(task.marker, task.tolerance);
+    let mut window = [0u8; 139264];
+    let mut piece = [0u8; 65536];
+    let mut out = [0u8; 65536];
+    let mut text = [0u8; 20];
+    let course = run(&mut window, &mut piece, &table, &mut out, &mut text, task);
+    finish(&out, course, task);
+}
