@@ -2,15 +2,14 @@
 use mathlib.Core.Path.{_≡_, refl, sym, ap, ap₂, _∙_}
 use mathlib.Core.Bool.{true, _&&_}
 use mathlib.Core.List.{List, [], _∷_, _++_, append-assoc, append-nil}
-use Prim.Native.Nat.{ℕ, zero, suc, _+_, _-_, _*_, _/_, _%_, _≤_, _<_, min}
+use Prim.Native.Nat.{ℕ, zero, suc, _+_, _-_, _*_, _/_, _%_, _≤_, _<_}
 use native.Mathlib.Nat.{add-zero, zero-add}
 use native.Mathlib.Numerals.{add-one}
-use native.Mathlib.Decide.{decLt}
 use native.Mathlib.Omega.{arith}
 use borrow.Author.Tests.{leb-true, eqb-true}
 use lib.Dec.{leb, eqb}
-use lib.ListN.{length, getD, set, take, drop, length-append, length-replicate, length-take, length-drop, drop-of-length-le}
-use lib.Seq.{take-all, take-at, drop-at, drop-cons, drop-drop, set-at, append-snoc}
+use lib.ListN.{length, getD, set, take, drop, replicate, length-append, length-replicate, length-take, length-drop, drop-of-length-le}
+use lib.Seq.{take-all, take-at, drop-at, drop-cons, drop-drop, set-at, append-snoc, length-take-le, paste, paste-suc}
 use borrow.Rule.Slice.PartMut.{putMid, post-is}
 use Rattle.remainder.specs.Remainder.{check}
 use Rattle.layout.proofs.Below.{both}
@@ -22,6 +21,45 @@ length-body k rs h = simp (length-append, length-replicate) (omega arith)
 pub length-block : (k : ℕ) (rs : List ℕ) → length rs ≤ 448 → length (packed-block k rs) ≡ 512
 unfolding packed-block
 length-block k rs h = length-append (body k rs) (check (body k rs) / 256 ∷ check (body k rs) % 256 ∷ []) ∙ ap (λ (n : ℕ). n + 2) (length-body k rs h)
+
+-- what stands before the records, written over the first four bytes
+headed : (k c : ℕ) (b : List ℕ) → 4 ≤ length b → set (set (set (set b 0 k) 1 0) 2 c) 3 0 ≡ k ∷ 0 ∷ c ∷ 0 ∷ drop 4 b
+headed k c [] h = absurd (omega arith)
+headed k c (x ∷ []) h = absurd (omega arith)
+headed k c (x ∷ y ∷ []) h = absurd (omega arith)
+headed k c (x ∷ y ∷ z ∷ []) h = absurd (omega arith)
+headed k c (x ∷ y ∷ z ∷ w ∷ t) h = refl
+
+zero-at : (n i : ℕ) → _≡_ {A = ℕ} (getD (replicate n 0) i 0) 0
+zero-at zero i = refl
+zero-at (suc n) zero = refl
+zero-at (suc n) (suc i) = zero-at n i
+
+-- zeros written one after the other
+pub zero-written : (b out : List ℕ) (a n i : ℕ) → a ≤ i → i < a + n → a + n ≤ length b → out ≡ paste b a (replicate n 0) (i - a) → set out i 0 ≡ paste b a (replicate n 0) (i + 1 - a)
+zero-written b out a n i h k l e =
+    let zs = replicate {A = ℕ} n 0 in
+    ap (λ (t : List ℕ). set t i 0) e
+    ∙ ap₂ (λ (j v : ℕ). set (paste b a zs (i - a)) j v) (let q : i ≡ a + (i - a) = omega arith in q) (sym (zero-at n (i - a)))
+    ∙ paste-suc b a zs (i - a) 0 (omega arith) (rw length-replicate (omega arith)) ∙ ap (paste b a zs) (let q : suc (i - a) ≡ i + 1 - a = omega arith in q)
+
+-- both, around the records that stand in a block
+pub body-written : (k c : ℕ) (b out : List ℕ) → k < 37 → c ≤ 7 → length b ≡ 512
+    → out ≡ paste (set (set (set (set b 0 k) 1 0) 2 c) 3 0) (4 + 64 * c) (replicate (510 - (4 + 64 * c)) 0) (510 - (4 + 64 * c)) → out ≡ body k (take (64 * c) (drop 4 b)) ++ drop 510 b
+body-written k c b out hk hc l e =
+    let rs = take (64 * c) (drop 4 b) in
+    let m = 510 - (4 + 64 * c) in
+    let begun = headed k c b (omega arith) in
+    let long : length rs ≡ 64 * c = length-take-le (64 * c) (drop 4 b) (simp length-drop (omega arith)) in
+    let front : take (4 + 64 * c) (set (set (set (set b 0 k) 1 0) 2 c) 3 0) ≡ k ∷ 0 ∷ c ∷ 0 ∷ rs =
+    ap (take (4 + 64 * c)) begun ∙ ap (λ (n : ℕ). take {A = ℕ} n (k ∷ 0 ∷ c ∷ 0 ∷ drop 4 b)) (let q : 4 + 64 * c ≡ suc (suc (suc (suc (64 * c)))) = omega arith in q) in
+    let zeros : take m (replicate {A = ℕ} m 0) ≡ replicate (506 - length rs) 0 =
+    take-all m (replicate m 0) (rw length-replicate (omega arith)) ∙ ap (λ (n : ℕ). replicate {A = ℕ} n 0) (let q : m ≡ 506 - length rs = omega arith in q) in
+    let back : drop (4 + 64 * c + m) (set (set (set (set b 0 k) 1 0) 2 c) 3 0) ≡ drop 510 b =
+    ap₂ drop (let q : 4 + 64 * c + m ≡ 510 = omega arith in q) begun ∙ drop-drop 506 4 b in
+    e ∙ ap₂ _++_ (ap₂ _++_ front zeros) back
+    ∙ ap₂ (λ (x y : ℕ). (x ∷ y ∷ c ∷ 0 ∷ rs) ++ replicate (506 - length rs) 0 ++ drop 510 b) (let q : k ≡ k % 256 = omega arith in q) (let q : 0 ≡ k / 256 % 256 = omega arith in q)
+    ∙ ap (λ (x : ℕ). (k % 256 ∷ k / 256 % 256 ∷ x ∷ 0 ∷ rs) ++ replicate (506 - length rs) 0 ++ drop 510 b) (let q : c ≡ length rs / 64 = omega arith in q)
 
 -- the check's two bytes, written behind the body
 pub seal-written : (b rest out : List ℕ) (q : ℕ) → length b ≡ 510 → length rest ≡ 512 → out ≡ b ++ drop 510 rest → q ≡ check b
@@ -56,26 +94,16 @@ packed-more (suc n) k rs =
     ap (λ (t : List ℕ). packed-block k (take 448 rs) ++ t) (packed-more n (k + 1) (drop 448 rs) ∙ ap₂ (λ (i : ℕ) (t : List ℕ). packed-from n (k + 1) (drop 448 rs) ++ packed-block i (take 448 t)) further past)
     ∙ sym (append-assoc (packed-block k (take 448 rs)) (packed-from n (k + 1) (drop 448 rs)) (packed-block (k + suc n) (take 448 (drop (448 * suc n) rs))))
 
--- the records of a block, the last of which may be cut short by the end
-cut : (a : ℕ) (rs : List ℕ) → a ≤ length rs → take (min (a + 448) (length rs) - a) (drop a rs) ≡ take 448 (drop a rs)
-cut a rs h = go (decLt (length rs) (a + 448))
-  where
-    go : Dec (length rs < a + 448) → take (min (a + 448) (length rs) - a) (drop a rs) ≡ take 448 (drop a rs)
-    go (yes p) =
-        take-all (min (a + 448) (length rs) - a) (drop a rs) (simp length-drop (omega arith)) ∙ sym (take-all 448 (drop a rs) (simp length-drop (omega arith)))
-    go (no p) = ap (λ (n : ℕ). take n (drop a rs)) (let e : min (a + 448) (length rs) - a ≡ 448 = omega arith in e)
-
 -- a block put behind those before it
-pub block-put : (k : ℕ) (rs out out₀ y : List ℕ) {m : ℕ} → 448 * k ≤ length rs → out ≡ packed-from k 0 rs ++ drop (512 * k) out₀ → m ≡ min (448 * k + 448) (length rs)
-    → y ≡ packed-block k (take (m - 448 * k) (drop (448 * k) rs)) → putMid (512 * k) (512 * k + 512 - 512 * k) out y ≡ packed-from (k + 1) 0 rs ++ drop (512 * (k + 1)) out₀
-block-put k rs out out₀ y h e f g =
+pub block-put : (k : ℕ) (rs out out₀ y : List ℕ) → out ≡ packed-from k 0 rs ++ drop (512 * k) out₀ → y ≡ packed-block k (take 448 (drop (448 * k) rs))
+    → putMid (512 * k) (512 * k + 512 - 512 * k) out y ≡ packed-from (k + 1) 0 rs ++ drop (512 * (k + 1)) out₀
+block-put k rs out out₀ y e g =
     let l = length-packed k 0 rs in
     let front : take (512 * k) out ≡ packed-from k 0 rs = ap (take (512 * k)) e ∙ take-at (packed-from k 0 rs) (drop (512 * k) out₀) (512 * k) l in
     let back : drop (512 * k + 512) out ≡ drop (512 * (k + 1)) out₀ =
     sym (drop-drop 512 (512 * k) out) ∙ ap (drop 512) (ap (drop (512 * k)) e ∙ drop-at (packed-from k 0 rs) (drop (512 * k) out₀) (512 * k) l)
     ∙ drop-drop 512 (512 * k) out₀ ∙ ap (λ (i : ℕ). drop i out₀) (let p : 512 * k + 512 ≡ 512 * (k + 1) = omega arith in p) in
-    let block : y ≡ packed-block (0 + k) (take 448 (drop (448 * k) rs)) =
-    g ∙ rw (f, cut (448 * k) rs h, zero-add k) in
+    let block : y ≡ packed-block (0 + k) (take 448 (drop (448 * k) rs)) = g ∙ rw (zero-add k) in
     ap₂ (λ (p q : List ℕ). p ++ (y ++ q)) front (post-is (512 * k) (512 * k + 512) out (omega arith) ∙ back)
     ∙ sym (append-assoc (packed-from k 0 rs) y (drop (512 * (k + 1)) out₀))
     ∙ ap (λ (t : List ℕ). packed-from k 0 rs ++ t ++ drop (512 * (k + 1)) out₀) block

@@ -1,20 +1,21 @@
 -- Packed records are a recording: of one to 256 records that the rules allow, the file is judged to have them all, and each is found at its place. Assumes
 -- nothing.
-use mathlib.Core.Path.{_≡_, refl, sym, ap, ap₂, _∙_}
+use mathlib.Core.Path.{_≡_, sym, ap, ap₂, _∙_}
 use mathlib.Core.Bool.{true, cond, _&&_}
-use mathlib.Core.List.{List, [], _∷_}
-use Prim.Native.Nat.{ℕ, zero, suc, _+_, _-_, _*_, _/_, _%_, _≤_, _<_, min}
+use mathlib.Core.List.{List}
+use Prim.Native.Nat.{ℕ, _+_, _-_, _*_, _/_, _%_, _≤_, _<_, min}
 use native.Mathlib.Nat.{zero-add}
 use native.Mathlib.Decide.{ℕ-discrete}
 use native.Mathlib.Omega.{arith}
 use borrow.Author.Tests.{eq-eqb, ne-eqb, le-leb}
 use lib.Dec.{leb, eqb}
 use lib.ListN.{length, getD, take, drop, length-take, length-drop}
-use lib.Seq.{take-take, drop-drop}
+use lib.Seq.{drop-drop}
 use Rattle.layout.specs.Definition.{whole-blocks, blocks, block, right-block, all-zero, part, record-laid, record-in, record-at-laid, count, count-laid, block-laid, laid-block, each-below, refusal, records, recording, judged, record-at}
 use Rattle.layout.proofs.Below.{all}
 use Rattle.packing.specs.Definition.{packed-block, blocks-for, packed}
 use Rattle.packing.proofs.Blocks.{length-packed}
+use Rattle.packing.proofs.Standing.{inner}
 use Rattle.packing.proofs.Parts.{opened, right-packed, zeros-packed, record-packed, block-packed}
 
 -- The record at a place of a list of records.
@@ -27,13 +28,6 @@ pub record Lawful (N : ℕ) (rs : List ℕ) : Type 0 where
   pub least : 1 ≤ N
   pub most : N ≤ 256
   pub each : (i : ℕ) → i < N → record-laid (eqb (i + 1) N) (nth rs i) ≡ true
-
--- a part of a part
-inner : (m n j : ℕ) (l : List ℕ) → m + j ≤ n → take j (drop m (take n l)) ≡ take j (drop m l)
-inner zero n j l h = take-take j n l (omega arith)
-inner (suc m) zero j l h = absurd (omega arith)
-inner (suc m) (suc n) j [] h = refl
-inner (suc m) (suc n) j (x ∷ l) h = inner m n j l (omega arith)
 
 -- two tests that pass together
 alike : (a b c d : ℕ) → (a ≡ b → c ≡ d) → (c ≡ d → a ≡ b) → eqb a b ≡ eqb c d

@@ -1,3 +1,4 @@
 pub mod Blocks
+pub mod Standing
 pub mod Parts
 pub mod Laid

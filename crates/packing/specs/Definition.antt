@@ -6,6 +6,7 @@ use lib.ListN.{length, take, drop, replicate}
 use lib.Dec.{leb, eqb}
 use Rattle.standard.specs.Lanes.{digits}
 use Rattle.remainder.specs.Remainder.{check}
+use Rattle.layout.specs.Definition.{record-at}
 
 -- "0..1 block number from 0; 2 record count; 3 zero; records of 64 bytes from byte 4 ..; zeros to byte 509": of the bytes of the records.
 abbrev pub body : ℕ → List ℕ → List ℕ
@@ -37,6 +38,11 @@ whole-records n = leb n 16384 && eqb (n % 64) 0 && leb 64 n
 abbrev pub fits : ℕ → ℕ → Bool
 fits n room = whole-records n && leb (512 * blocks-for n) room
 
--- A buffer with the file at its start, or as it was.
-abbrev pub packed-into : List ℕ → List ℕ → List ℕ
-packed-into rs out = cond (fits (length rs) (length out)) (packed rs ++ drop (512 * blocks-for (length rs)) out) out
+-- The first n records that stand in the blocks of a buffer, one after the other.
+unfoldable pub standing : ℕ → List ℕ → List ℕ
+standing zero out = []
+standing (suc n) out = standing n out ++ record-at out n
+
+-- A buffer whose first n records have become a file at its start, or as it was.
+abbrev pub sealed-into : ℕ → List ℕ → List ℕ
+sealed-into n out = cond (fits (64 * n) (length out)) (packed (standing n out) ++ drop (512 * blocks-for (64 * n)) out) out

@@ -9,8 +9,8 @@ use native.Mathlib.Omega.{arith}
 use borrow.Author.Tests.{eqb-true, eq-eqb, ne-eqb, leb-true}
 use borrow.Rule.Slice.PartMut.{putMid}
 use lib.Dec.{leb, eqb}
-use lib.ListN.{length, getD, take, drop, length-append, length-take, length-drop}
-use lib.Seq.{take-at, drop-drop, length-take-le}
+use lib.ListN.{length, getD, take, drop, length-append, length-drop}
+use lib.Seq.{drop-drop, length-take-le}
 use Rattle.standard.specs.Refusal as calculator
 use Rattle.standard.specs.Refusal.{given}
 use Rattle.standard.specs.Instruction.{instruction}
@@ -19,6 +19,8 @@ use Rattle.rules.proofs.Judged.{one}
 use Rattle.trace.specs.Definition.{trace, Answer, agrees, differs, refused, compared, recorded}
 use Rattle.trace.proofs.Words.{length-trace}
 use Rattle.layout.specs.Definition.{record-at}
+use Rattle.packing.specs.Definition.{blocks-for, standing}
+use Rattle.packing.proofs.Standing.{place, one-put, none-behind}
 use Rattle.records.specs.Definition.{kind-byte, written, left-by, trace-of, going-on, next, replay-from, records-from}
 
 -- ---- a step that is not refused names a register where it writes one
@@ -142,13 +144,6 @@ module _ (n at : ℕ) (list front : List ℕ) (m : Machine) where
     unfolding records-from
     run-stop k e = rw (one-left n at h, e) (ap (λ (t : List ℕ). front ++ t) (append-nil (take 32 (drop (32 * at) list) ++ trace-of at m (take 32 (drop (32 * at) list)))))
 
--- a record put behind those before it
-put-behind : (at : ℕ) (out y : List ℕ) → 64 * at ≤ length out → length y ≡ 64 → take (64 * (at + 1)) (putMid (64 * at) (64 * at + 64 - 64 * at) out y) ≡ take (64 * at) out ++ y
-put-behind at out y h l =
-    ap (take (64 * (at + 1))) (sym (append-assoc (take (64 * at) out) y (drop (64 * at + 64 - 64 * at) (drop (64 * at) out))))
-    ∙ take-at (take (64 * at) out ++ y) (drop (64 * at + 64 - 64 * at) (drop (64 * at) out)) (64 * (at + 1))
-    (length-append (take (64 * at) out) y ∙ ap₂ _+_ (length-take-le (64 * at) out h) l ∙ (let e : 64 * at + 64 ≡ 64 * (at + 1) = omega arith in e))
-
 length-trace-of : (place : ℕ) (m : Machine) (s : List ℕ) → length (trace-of place m s) ≡ 32
 unfolding trace-of
 length-trace-of place m s = of (step place m s)
@@ -157,38 +152,82 @@ length-trace-of place m s = of (step place m s)
     of (calculator.given after) = length-trace (written s after) 0 (kind-byte (after .kind)) (after .bits)
     of (calculator.refused n) = length-trace 0 n (kind-byte (m .kind)) (m .bits)
 
--- a step of the list with its trace, over the next 64 bytes
-module _ (n at : ℕ) (list out : List ℕ) (m : Machine) (h : at < n) (room : 64 * at + 64 ≤ length out) (enough : 32 * n ≤ length list) (t y : List ℕ)
-    (e : t ≡ trace-of at m (take (32 * at + 32 - 32 * at) (drop (32 * at) list)))
-    (p : y ≡ recorded (take (64 * at + 64 - 64 * at) (drop (64 * at) out)) (take (32 * at + 32 - 32 * at) (drop (32 * at) list)) t) where
+-- a step of the list, and how long what is left of the run is
+module _ (n at : ℕ) (list : List ℕ) (m : Machine) (h : at < n) (enough : 32 * n ≤ length list) where
   same-step : take (32 * at + 32 - 32 * at) (drop (32 * at) list) ≡ take 32 (drop (32 * at) list)
   same-step = ap (λ (k : ℕ). take k (drop (32 * at) list)) (let q : 32 * at + 32 - 32 * at ≡ 32 = omega arith in q)
 
   step-long : length (take 32 (drop (32 * at) list)) ≡ 32
   step-long = length-take-le 32 (drop (32 * at) list) (simp length-drop (omega arith))
 
-  place-long : length (take (64 * at + 64 - 64 * at) (drop (64 * at) out)) ≡ 64
-  place-long = rw (length-take, length-drop) (omega arith)
-
-  is-record : y ≡ take 32 (drop (32 * at) list) ++ trace-of at m (take 32 (drop (32 * at) list))
-  is-record = p ∙ rw (same-step, eq-eqb _ _ place-long, eq-eqb _ _ step-long) (ap (λ (l : List ℕ). take 32 (drop (32 * at) list) ++ l) (e ∙ ap (trace-of at m) same-step))
-
-  long : length y ≡ 64
-  long = ap length is-record ∙ length-append (take 32 (drop (32 * at) list)) (trace-of at m (take 32 (drop (32 * at) list))) ∙ ap₂ _+_ step-long (length-trace-of at m (take 32 (drop (32 * at) list)))
-
-  front : take (64 * (at + 1)) (putMid (64 * at) (64 * at + 64 - 64 * at) out y) ≡ take (64 * at) out ++ (take 32 (drop (32 * at) list) ++ trace-of at m (take 32 (drop (32 * at) list)))
-  front = put-behind at out y (omega arith) long ∙ ap (λ (l : List ℕ). take (64 * at) out ++ l) is-record
+  record-long : length (take 32 (drop (32 * at) list) ++ trace-of at m (take 32 (drop (32 * at) list))) ≡ 64
+  record-long = length-append (take 32 (drop (32 * at) list)) (trace-of at m (take 32 (drop (32 * at) list))) ∙ ap₂ _+_ step-long (length-trace-of at m (take 32 (drop (32 * at) list)))
 
   module _ (r : ℕ) (after : Machine) (answer : cond (eqb r 0) (given after) (calculator.refused r) ≡ step at m (take (32 * at + 32 - 32 * at) (drop (32 * at) list))) where
     here : cond (eqb r 0) (given after) (calculator.refused r) ≡ step at m (take 32 (drop (32 * at) list))
     here = answer ∙ ap (step at m) same-step
 
+    given-here : r ≡ 0 → step at m (take 32 (drop (32 * at) list)) ≡ given after
+    given-here z = sym (rw (eq-eqb r 0 z) at here)
+
+    refused-here : (r ≡ 0 → ⊥) → step at m (take 32 (drop (32 * at) list)) ≡ calculator.refused r
+    refused-here z = sym (rw (ne-eqb r 0 z) at here)
+
+    pub count-more : r ≡ 0
+        → 64 * (at + 1) + length (records-from (n - (at + 1)) (at + 1) (drop (32 * (at + 1)) list) after) ≡ 64 * at + length (records-from (n - at) at (drop (32 * at) list) m)
+    count-more z =
+        let rest = records-from (n - (at + 1)) (at + 1) (drop (32 * (at + 1)) list) after in
+        omega (arith, record-long, ap length (run-turn n at list [] m h after (given-here z)), length-append (take 32 (drop (32 * at) list) ++ trace-of at m (take 32 (drop (32 * at) list))) rest)
+
+    pub count-last : (r ≡ 0 → ⊥) → 64 * (at + 1) ≡ 64 * at + length (records-from (n - at) at (drop (32 * at) list) m)
+    count-last z = omega (arith, record-long, ap length (run-stop n at list [] m h r (refused-here z)))
+
+  some-left : 64 ≤ length (records-from (n - at) at (drop (32 * at) list) m)
+  some-left = of (step at m (take 32 (drop (32 * at) list))) refl
+    where
+      of : (a : calculator.Answer Machine) → step at m (take 32 (drop (32 * at) list)) ≡ a → 64 ≤ length (records-from (n - at) at (drop (32 * at) list) m)
+      of (given after) e =
+          let rest = records-from (n - (at + 1)) (at + 1) (drop (32 * (at + 1)) list) after in
+          omega (arith, record-long, ap length (run-turn n at list [] m h after e), length-append (take 32 (drop (32 * at) list) ++ trace-of at m (take 32 (drop (32 * at) list))) rest)
+      of (calculator.refused k) e = omega (arith, record-long, ap length (run-stop n at list [] m h k e))
+
+  -- a buffer that has room for the blocks of all records has the place of the next
+  pub has-place : (all : ℕ) → 64 * at + length (records-from (n - at) at (drop (32 * at) list) m) ≡ all → (room : ℕ) → 512 * blocks-for all ≤ room → place at + 64 ≤ room
+  has-place all e room k = omega (arith, some-left)
+
+-- the length of what is left at the end
+pub count-end : (n at : ℕ) (list : List ℕ) (m : Machine) → n ≤ at → 64 * at ≡ 64 * at + length (records-from (n - at) at (drop (32 * at) list) m)
+count-end n at list m h = omega (arith, ap length (run-end n at list [] m h))
+
+-- a step of the list with its trace, at the next place
+module _ (n at : ℕ) (list out : List ℕ) (m : Machine) (h : at < n) (room : place at + 64 ≤ length out) (enough : 32 * n ≤ length list) (t y : List ℕ)
+    (e : t ≡ trace-of at m (take (32 * at + 32 - 32 * at) (drop (32 * at) list)))
+    (p : y ≡ recorded (take (place at + 64 - place at) (drop (place at) out)) (take (32 * at + 32 - 32 * at) (drop (32 * at) list)) t) where
+  place-long : length (take (place at + 64 - place at) (drop (place at) out)) ≡ 64
+  place-long = length-take-le (place at + 64 - place at) (drop (place at) out) (simp length-drop (omega arith)) ∙ (let q : place at + 64 - place at ≡ 64 = omega arith in q)
+
+  is-record : y ≡ take 32 (drop (32 * at) list) ++ trace-of at m (take 32 (drop (32 * at) list))
+  is-record =
+      p ∙ rw (same-step n at list m h enough, eq-eqb _ _ place-long, eq-eqb _ _ (step-long n at list m h enough))
+      (ap (λ (l : List ℕ). take 32 (drop (32 * at) list) ++ l) (e ∙ ap (trace-of at m) (same-step n at list m h enough)))
+
+  long : length y ≡ 64
+  long = ap length is-record ∙ record-long n at list m h enough
+
+  front : standing (at + 1) (putMid (place at) (place at + 64 - place at) out y) ≡ standing at out ++ (take 32 (drop (32 * at) list) ++ trace-of at m (take 32 (drop (32 * at) list)))
+  front = one-put at out y room long ∙ ap (λ (l : List ℕ). standing at out ++ l) is-record
+
+  pub as-before : (out₀ : List ℕ) → drop (512 * blocks-for (64 * at)) out ≡ drop (512 * blocks-for (64 * at)) out₀
+      → drop (512 * blocks-for (64 * (at + 1))) (putMid (place at) (place at + 64 - place at) out y) ≡ drop (512 * blocks-for (64 * (at + 1))) out₀
+  as-before = none-behind at out y room long
+
+  module _ (r : ℕ) (after : Machine) (answer : cond (eqb r 0) (given after) (calculator.refused r) ≡ step at m (take (32 * at + 32 - 32 * at) (drop (32 * at) list))) where
     pub one-more : r ≡ 0
-        → take (64 * (at + 1)) (putMid (64 * at) (64 * at + 64 - 64 * at) out y) ++ records-from (n - (at + 1)) (at + 1) (drop (32 * (at + 1)) list) after
-        ≡ take (64 * at) out ++ records-from (n - at) at (drop (32 * at) list) m
+        → standing (at + 1) (putMid (place at) (place at + 64 - place at) out y) ++ records-from (n - (at + 1)) (at + 1) (drop (32 * (at + 1)) list) after
+        ≡ standing at out ++ records-from (n - at) at (drop (32 * at) list) m
     one-more z =
         ap (λ (l : List ℕ). l ++ records-from (n - (at + 1)) (at + 1) (drop (32 * (at + 1)) list) after) front
-        ∙ sym (run-turn n at list (take (64 * at) out) m h after (sym (rw (eq-eqb r 0 z) at here)))
+        ∙ sym (run-turn n at list (standing at out) m h after (given-here n at list m h enough r after answer z))
 
-    pub last-one : (r ≡ 0 → ⊥) → take (64 * (at + 1)) (putMid (64 * at) (64 * at + 64 - 64 * at) out y) ≡ take (64 * at) out ++ records-from (n - at) at (drop (32 * at) list) m
-    last-one z = front ∙ sym (run-stop n at list (take (64 * at) out) m h r (sym (rw (ne-eqb r 0 z) at here)))
+    pub last-one : (r ≡ 0 → ⊥) → standing (at + 1) (putMid (place at) (place at + 64 - place at) out y) ≡ standing at out ++ records-from (n - at) at (drop (32 * at) list) m
+    last-one z = front ∙ sym (run-stop n at list (standing at out) m h r (refused-here n at list m h enough r after answer z))

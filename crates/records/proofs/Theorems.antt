@@ -18,8 +18,8 @@ use Rattle.rules.proofs.Judged.{one}
 use Rattle.trace.specs.Definition.{wide, trace, agrees}
 use Rattle.trace.proofs.Words.{length-trace, same-refl}
 use Rattle.layout.specs.Definition.{part, all-zero, record-laid, record-at, Judged}
-use Rattle.packing.specs.Definition.{blocks-for, packed, fits, packed-into}
-use Rattle.packing.proofs.Blocks.{length-packed}
+use Rattle.packing.specs.Definition.{blocks-for, packed, fits, standing, sealed-into}
+use Rattle.packing.proofs.Blocks.{length-packed, fitting}
 use Rattle.packing.proofs.Laid.{nth, Lawful, judged-packed, found}
 use Rattle.records.specs.Definition as definition
 use Rattle.records.specs.Definition.{kind-byte, written, left-by, trace-of, going-on, next, replay-from, replay, further, records-from, records-of, Recorded, wrote, empty, short, rejected}
@@ -198,6 +198,21 @@ module _ (list : List ℕ) (e : list-refusal (length list) 0 256 ≡ 0) (ne : le
       let n = length (records-from (length list / 32) 0 list start) in
       rw (le-leb n 16384 (omega arith), eq-eqb (n % 64) 0 (omega arith), le-leb 64 n (omega arith), length-packed (blocks-for n) 0 (records-from (length list / 32) 0 list start))
 
+  -- where a record of every step has room, those of the run have
+  pub room-for-all : (room : ℕ) → fits (2 * length list) room ≡ true → fits (length (records-of list)) room ≡ true
+  unfolding records-of
+  room-for-all room f =
+      let w = whole (length list) e in
+      let M = many (length list / 32) 0 list start in
+      let r = recordable (length list / 32) 0 list start (omega arith) in
+      let l = r .long in
+      let least = some (length list / 32) 0 list start (few (length list) w ne) in
+      let most = r .most in
+      let all = fitting (2 * length list) room f in
+      let enough = all .enough in
+      let n = length (records-from (length list / 32) 0 list start) in
+      rw (le-leb n 16384 (omega arith), eq-eqb (n % 64) 0 (omega arith), le-leb 64 n (omega arith), le-leb (512 * blocks-for n) room (omega arith))
+
 pub length-recording : (list : List ℕ) → length (definition.recording list) ≡ 512 * blocks-for (length (records-of list))
 unfolding definition.recording packed
 length-recording list = length-packed (blocks-for (length (records-of list))) 0 (records-of list)
@@ -259,25 +274,20 @@ module _ (list out : List ℕ) where
     unfolding definition.recorded
     when-empty e = rw (eq-eqb (list-refusal (length list) 0 256) 0 ok, eq-eqb (length list) 0 e)
 
-    module _ (ne : length list ≡ 0 → ⊥) (rs : List ℕ) (e : rs ≡ records-of list) where
-      room : fits (length rs) (length out) ≡ leb (length (definition.recording list)) (length out)
-      room = ap (λ (l : List ℕ). fits (length l) (length out)) e ∙ records-fit list ok ne (length out)
+    module _ (ne : length list ≡ 0 → ⊥) where
+      -- n records that stand in the buffer, as it was left, and were sealed
+      pub when-sealed : (n : ℕ) (left : List ℕ) {after : List ℕ} → fits (length (records-of list)) (length out) ≡ true → length left ≡ length out
+          → 64 * n ≡ length (records-of list) → standing n left ≡ records-of list → drop (512 * blocks-for (64 * n)) left ≡ drop (512 * blocks-for (64 * n)) out
+          → after ≡ sealed-into n left → (wrote (512 * blocks-for (64 * n)), after) ≡ definition.recorded list out
+      unfolding definition.recorded definition.recording
+      when-sealed n left {after} t l c s d p =
+          let long : 512 * blocks-for (64 * n) ≡ length (definition.recording list) = ap (λ (i : ℕ). 512 * blocks-for i) c ∙ sym (length-recording list) in
+          let room : fits (64 * n) (length left) ≡ true = ap₂ fits c l ∙ t in
+          let q : after ≡ definition.recording list ++ drop (length (definition.recording list)) out =
+          (rw room at p) ∙ ap₂ _++_ (ap packed s) (d ∙ ap (λ (i : ℕ). drop i out) long) in
+          rw (eq-eqb (list-refusal (length list) 0 256) 0 ok, ne-eqb (length list) 0 ne, sym (records-fit list ok ne (length out)) ∙ t)
+          (ap₂ (λ (i : ℕ) (b : List ℕ). (wrote i, b)) long q)
 
-      long : length (definition.recording list) ≡ 512 * blocks-for (length rs)
-      long = length-recording list ∙ ap (λ (l : List ℕ). 512 * blocks-for (length l)) (sym e)
-
-      is-packed : packed rs ≡ definition.recording list
-      unfolding definition.recording
-      is-packed = ap packed e
-
-      pub when-packed : {after : List ℕ} → fits (length rs) (length out) ≡ true → after ≡ packed-into rs out → (wrote (512 * blocks-for (length rs)), after) ≡ definition.recorded list out
+      pub when-short : fits (length (records-of list)) (length out) ≡ false → (short, out) ≡ definition.recorded list out
       unfolding definition.recorded
-      when-packed {after} t p =
-          let q : after ≡ definition.recording list ++ drop (length (definition.recording list)) out = p ∙ rw t (ap₂ (λ (l : List ℕ) (n : ℕ). l ++ drop n out) is-packed (sym long)) in
-          rw (eq-eqb (list-refusal (length list) 0 256) 0 ok, ne-eqb (length list) 0 ne, sym room ∙ t) (ap₂ (λ (n : ℕ) (l : List ℕ). (wrote n, l)) (sym long) q)
-
-      pub when-short : {after : List ℕ} → fits (length rs) (length out) ≡ false → after ≡ packed-into rs out → (short, after) ≡ definition.recorded list out
-      unfolding definition.recorded
-      when-short {after} t p =
-          let q : after ≡ out = p ∙ rw t in
-          rw (eq-eqb (list-refusal (length list) 0 256) 0 ok, ne-eqb (length list) 0 ne, sym room ∙ t) (ap (λ (l : List ℕ). (short, l)) q)
+      when-short t = rw (eq-eqb (list-refusal (length list) 0 256) 0 ok, ne-eqb (length list) 0 ne, sym (records-fit list ok ne (length out)) ∙ t)
