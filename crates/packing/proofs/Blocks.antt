@@ -1,15 +1,16 @@
 -- Blocks, one after the other. Assumes nothing.
 use mathlib.Core.Path.{_≡_, refl, sym, ap, ap₂, _∙_}
-use mathlib.Core.Bool.{true, _&&_}
+use mathlib.Core.Bool.{true, cond, _&&_}
 use mathlib.Core.List.{List, [], _∷_, _++_, append-assoc, append-nil}
 use Prim.Native.Nat.{ℕ, zero, suc, _+_, _-_, _*_, _/_, _%_, _≤_, _<_}
 use native.Mathlib.Nat.{add-zero, zero-add}
 use native.Mathlib.Numerals.{add-one}
+use native.Mathlib.Decide.{decLt}
 use native.Mathlib.Omega.{arith}
-use borrow.Author.Tests.{leb-true, eqb-true}
-use lib.Dec.{leb, eqb}
+use borrow.Author.Tests.{leb-true, eqb-true, lt-ltb, le-ltb}
+use lib.Dec.{leb, ltb, eqb}
 use lib.ListN.{length, getD, set, take, drop, replicate, length-append, length-replicate, length-take, length-drop, drop-of-length-le}
-use lib.Seq.{take-all, take-at, drop-at, drop-cons, drop-drop, set-at, append-snoc, length-take-le, paste, paste-suc}
+use lib.Seq.{take-all, take-at, drop-at, drop-cons, drop-drop, set-at, set-getD, append-snoc, length-take-le, paste, paste-suc}
 use borrow.Rule.Slice.PartMut.{putMid, post-is}
 use Rattle.remainder.specs.Remainder.{check}
 use Rattle.layout.proofs.Below.{both}
@@ -36,12 +37,21 @@ zero-at (suc n) zero = refl
 zero-at (suc n) (suc i) = zero-at n i
 
 -- zeros written one after the other
-pub zero-written : (b out : List ℕ) (a n i : ℕ) → a ≤ i → i < a + n → a + n ≤ length b → out ≡ paste b a (replicate n 0) (i - a) → set out i 0 ≡ paste b a (replicate n 0) (i + 1 - a)
+zero-written : (b out : List ℕ) (a n i : ℕ) → a ≤ i → i < a + n → a + n ≤ length b → out ≡ paste b a (replicate n 0) (i - a) → set out i 0 ≡ paste b a (replicate n 0) (i + 1 - a)
 zero-written b out a n i h k l e =
     let zs = replicate {A = ℕ} n 0 in
     ap (λ (t : List ℕ). set t i 0) e
     ∙ ap₂ (λ (j v : ℕ). set (paste b a zs (i - a)) j v) (let q : i ≡ a + (i - a) = omega arith in q) (sym (zero-at n (i - a)))
     ∙ paste-suc b a zs (i - a) 0 (omega arith) (rw length-replicate (omega arith)) ∙ ap (paste b a zs) (let q : suc (i - a) ≡ i + 1 - a = omega arith in q)
+
+-- bytes as they stand up to a place, and then zeros
+pub kept-written : (b out : List ℕ) (a n i : ℕ) {v : ℕ} → i < a + n → a + n ≤ length b → out ≡ paste b a (replicate n 0) (i - a) → v ≡ cond (ltb i a) (getD out i 0) 0
+    → set out i v ≡ paste b a (replicate n 0) (i + 1 - a)
+kept-written b out a n i {v} k l e p = go (decLt i a)
+  where
+    go : Dec (i < a) → set out i v ≡ paste b a (replicate n 0) (i + 1 - a)
+    go (yes h) = ap (set out i) (p ∙ rw (lt-ltb i a h)) ∙ set-getD out i 0 ∙ e ∙ ap (paste b a (replicate n 0)) (let q : i - a ≡ i + 1 - a = omega arith in q)
+    go (no h) = let m : a ≤ i = omega arith in ap (set out i) (p ∙ rw (le-ltb i a m)) ∙ zero-written b out a n i m k l e
 
 -- both, around the records that stand in a block
 pub body-written : (k c : ℕ) (b out : List ℕ) → k < 37 → c ≤ 7 → length b ≡ 512

@@ -1,10 +1,19 @@
 // Records that stand in the blocks of a buffer become a file (document 02, order 8).
 ghost use Prim.Native.Nat.{_*_, _≤_, _<_, min};
 ghost use mathlib.Core.Path.{_≡_};
+ghost use mathlib.Core.Bool.{cond};
 ghost use mathlib.Core.List.{_++_};
+ghost use lib.Dec.{ltb};
 ghost use lib.ListN.{length, take, drop};
 ghost use Rattle.packing.specs.Definition.{packed-block, packed, blocks-for, fits, standing, sealed-into};
 use remainder::check;
+
+// A byte of a block: of the records, which end there, as it stands; behind them zero.
+fn kept(byte: u8, i: usize, end: usize) -> u8
+    ensures { λ r. ⌜ r ≡ cond (ltb i end) byte 0 ⌝ }
+{
+    if i < end { byte } else { 0 }
+}
 
 // Of a block in which so many records stand from byte 4 on: its number and their count, the zeros behind them, the check.
 fn seal_block(block: &mut [u8], k: usize, count: usize)
@@ -18,8 +27,9 @@ fn seal_block(block: &mut [u8], k: usize, count: usize)
     block[2] = count as u8;
     block[3] = 0;
     let end = 4 + 64 * count;
-    for i in end..510 {
-        block[i] = 0;
+    // Each byte is read before it is written: a loop that only wrote zeros would be compiled to a call of memset.
+    for i in 4..510 {
+        block[i] = kept(block[i], i, end);
     }
     let q = check(&block[..510]);
     block[510] = (q / 256) as u8;
