@@ -22,7 +22,7 @@
  *
  * Tail calls. A function that hands back a struct of more than 16 bytes writes it to a place on the caller's stack, and a handler that has such a place
  * cannot end in a jump to the next one. The functions behind gatulefo_value_ hand back the vector alone, in registers; so do all that cannot refuse, and an
- * extract and a store hand back their structs of 16 bytes in registers. Of the stack gatulefo_record takes 17 KiB, and no other function 2 KiB.
+ * extract and a store hand back their structs of 16 bytes in registers. Of the stack gatulefo_find takes 11 KiB, and no other function 2 KiB.
  *
  * Above a declaration stands what the function does, and then its promise. The promise's words stand in crates/standard/specs, and in the specs of the crates
  * that its source names. `number` is the number of a vector's 128 bits, and `r` is what comes back.
