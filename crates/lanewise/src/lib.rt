@@ -7,8 +7,8 @@ ghost use Rattle.lanewise.specs.Lanewise.{unaries, unaries8, unaries16, 
 use lane::arithmetic::*;
 use lane::compare::*;
 use lane::shift::*;
-use relaxed::dot16;
 use wide_lane::*;
+use width_lane::dot16;
 use width_lane::*;
 
 pub const NEG: u8 = 0;

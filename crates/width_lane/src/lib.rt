@@ -2,8 +2,9 @@
 ghost use mathlib.Core.Path.{_≡_};
 ghost use Prim.Native.Nat.{ℕ, _+_, _*_, _/_, _^_};
 ghost use Rattle.standard.specs.Lanes.{digits, lanes};
-ghost use Rattle.standard.specs.Integer.{extend-u, extend-s, narrow-u, narrow-s};
+ghost use Rattle.standard.specs.Integer.{iadd, extend-u, extend-s, narrow-u, narrow-s};
 ghost use Rattle.width_lane.specs.Widen.{extends, narrows, half-of, pair-sum, pair-product};
+use lane::arithmetic::mul16;
 use lane::arithmetic::mul32;
 use lane::reinterpret::signed8;
 use lane::reinterpret::signed16;
@@ -74,6 +75,27 @@ pub fn dot32(a: u32, b: u32) -> u32
         extend_s16((b / 65536) as u16),
     );
     std::num::wrapping_add_u32(low, high)
+}
+
+// The same of two bytes, for the relaxed dots: both read as signed, added modulo 2^16.
+pub fn dot16(a: u16, b: u16) -> u16
+    ensures { λ r. ⌜ r ≡ pair-product 8 a b ⌝ }
+{
+    let low = mul16(
+        extend8(true, (a % 256) as u8),
+        extend8(true, (b % 256) as u8),
+    );
+    let high = mul16(
+        extend8(true, (a / 256) as u8),
+        extend8(true, (b / 256) as u8),
+    );
+    sum16(low, high)
+}
+
+fn sum16(a: u16, b: u16) -> u16
+    ensures { λ r. ⌜ r ≡ iadd 16 a b ⌝ }
+{
+    std::num::wrapping_add_u16(a, b)
 }
 
 pub fn narrow_s16(x: u16) -> u8

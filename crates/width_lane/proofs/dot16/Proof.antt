@@ -1,9 +1,9 @@
--- `relaxed::dot16` meets its contract: the sum of the two products. Assumes nothing.
+-- `width_lane::dot16` meets its contract: the sum of the two products. Assumes nothing.
 use borrow.Author.Needs.{needs}
 use mathlib.Core.Path.{ap₂, _∙_}
 use Rattle.standard.specs.Integer.{iadd, imul}
-use Rattle.relaxed.proofs.dot16.Statement.{statement}
-use Rattle.relaxed.proofs.dot16.Tie as tie
+use Rattle.width_lane.proofs.dot16.Statement.{statement}
+use Rattle.width_lane.proofs.dot16.Tie as tie
 
 cast-extend8 : tie.Need-cast-extend8
 cast-extend8 c = search needs
