@@ -11,7 +11,8 @@ use lib.ListN.{length, getD, List·getD-eq-default}
 use Rattle.program_digits.specs.Codes.{codes}
 use Rattle.program_words.specs.Cut.{newline, blank, same}
 use Rattle.program_words.proofs.Free.{free}
-use Rattle.program_names.specs.Names.{names, place, name, number}
+use Rattle.program_table.specs.Place.{place}
+use Rattle.program_names.specs.Names.{names, name, number}
 
 -- a test that passes at each text of a list and its place, counted from i
 abbrev every : (ℕ → List ℕ → Bool) → ℕ → List (List ℕ) → Bool

@@ -1,12 +1,11 @@
 -- The names of the instructions by the standard's number after the 0xFD prefix: the name of number 0, of number 1, and so on, as
 -- standard/specs/Instruction.antt has them beside its numbers; "" where there is no instruction.
-use Prim.Native.Nat.{ℕ, suc}
+use Prim.Native.Nat.{ℕ}
 use Prim.Native.String.{String}
-use mathlib.Core.Bool.{cond}
 use mathlib.Core.List.{List, [], _∷_, map}
 use lib.ListN.{getD}
 use Rattle.program_digits.specs.Codes.{codes}
-use Rattle.program_words.specs.Cut.{same}
+use Rattle.program_table.specs.Place.{place}
 
 unfoldable pub names : List String
 names =
@@ -48,11 +47,6 @@ names =
     "i16x8.relaxed_laneselect" ∷ "i32x4.relaxed_laneselect" ∷ "i64x2.relaxed_laneselect" ∷ "f32x4.relaxed_min" ∷ "f32x4.relaxed_max" ∷
     "f64x2.relaxed_min" ∷ "f64x2.relaxed_max" ∷ "i16x8.relaxed_q15mulr_s" ∷ "i16x8.relaxed_dot_i8x16_i7x16_s" ∷
     "i32x4.relaxed_dot_i8x16_i7x16_add_s" ∷ []
-
--- the place of a text in a list of texts, or the list's length
-unfoldable pub place : List (List ℕ) → List ℕ → ℕ
-place [] w = 0
-place (n ∷ ns) w = cond (same n w) 0 (suc (place ns w))
 
 -- the name of a number, nothing where it has none; and the number of a name: 276 for any other text
 unfoldable pub name : ℕ → List ℕ

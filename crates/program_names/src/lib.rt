@@ -1,64 +1,7 @@
 // The names of the operations, both ways: the number of a name, and the name of a number.
 ghost use mathlib.Core.Path.{_≡_};
-ghost use mathlib.Core.List.{[]};
-ghost use lib.ListN.{getD};
 ghost use Rattle.program_digits.specs.Put.{Wrote};
-ghost use Rattle.program_words.specs.Cut.{newline, pieces};
-ghost use Rattle.program_names.specs.Names.{name, place, number};
-ghost use Rattle.program_names.specs.Spans.{Spans};
-use program_words::Stop;
-
-// A part of a text.
-pub struct Span {
-    pub start: usize,
-    pub end: usize,
-}
-
-// Which line of a text this one is, the first being 0; the number of lines where none is.
-fn find(lines: &[u8], line: &[u8]) -> usize
-    ensures { λ r. ⌜ r ≡ place (pieces newline (now (lines .entry))) (now (line .entry)) ⌝ }
-{
-    let mut at = 0;
-    let mut n = 0;
-    loop {
-        let end = program_words::scan(lines, at, Stop::Line);
-        if check::same(&lines[at..end], line) {
-            return n;
-        }
-        n += 1;
-        if end == lines.len() {
-            return n;
-        }
-        at = end + 1;
-    }
-}
-
-// The line of a number; nothing where the text has fewer lines.
-fn nth(lines: &[u8], n: usize) -> Span
-    ensures { λ r. ⌜ Spans (now (lines .entry)) r (getD (pieces newline (now (lines .entry))) n []) ⌝ }
-{
-    let mut at = 0;
-    let mut k = n;
-    while k > 0 {
-        let end = program_words::scan(lines, at, Stop::Line);
-        if end == lines.len() {
-            return Span { start: end, end };
-        }
-        at = end + 1;
-        k -= 1;
-    }
-    let end = program_words::scan(lines, at, Stop::Line);
-    Span { start: at, end }
-}
-
-fn put_line(out: &mut [u8], at: usize, lines: &[u8], n: usize) -> usize
-    ensures { λ r. ⌜ Wrote (now (out .entry)) at (getD (pieces newline (now (lines .entry))) n []) (now (out .exit)) r ⌝ }
-{
-    let s = nth(lines, n);
-    let start = s.start;
-    let end = s.end;
-    program_digits::put(out, at, &lines[start..end])
-}
+ghost use Rattle.program_names.specs.Names.{name, number};
 
 // The table of specs/Names.antt: a line for each number, an empty one where there is no instruction.
 const NAMES: [u8; 3993] = *b"\
@@ -100,12 +43,12 @@ i32x4.relaxed_dot_i8x16_i7x16_add_s";
 pub fn number(word: &[u8]) -> usize
     ensures { λ r. ⌜ r ≡ number (now (word .entry)) ⌝ }
 {
-    find(&NAMES, word)
+    program_table::find(&NAMES, word)
 }
 
 // Puts the name of an operation into a lent slice from a place on, and answers the place after it.
 pub fn put_name(out: &mut [u8], at: usize, operation: usize) -> usize
     ensures { λ r. ⌜ Wrote (now (out .entry)) at (name operation) (now (out .exit)) r ⌝ }
 {
-    put_line(out, at, &NAMES, operation)
+    program_table::put_line(out, at, &NAMES, operation)
 }

@@ -4,7 +4,7 @@ use mathlib.Core.List.{List, _∷_}
 use Prim.Native.Nat.{ℕ, suc}
 use Rattle.program_words.specs.Cut.{same}
 use Rattle.program_words.proofs.Pieces.{same-true, same-refl, is-false}
-use Rattle.program_names.specs.Names.{place}
+use Rattle.program_table.specs.Place.{place}
 
 module _ (p w : List ℕ) (ps : List (List ℕ)) where
   pub place-here : p ≡ w → place (p ∷ ps) w ≡ 0

@@ -1,7 +1,7 @@
--- `program_names::put_line` meets its contract. Assumes nothing.
+-- `program_table::put_line` meets its contract. Assumes nothing.
 use borrow.Author.Needs.{needs}
-use Rattle.program_names.proofs.put_line.Statement.{statement}
-use Rattle.program_names.proofs.put_line.Tie as tie
+use Rattle.program_table.proofs.put_line.Statement.{statement}
+use Rattle.program_table.proofs.put_line.Tie as tie
 
 nth-requires : tie.Need-nth-requires
 nth-requires c κs = search needs

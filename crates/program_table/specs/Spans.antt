@@ -3,7 +3,7 @@ use Prim.Native.Nat.{ℕ, _-_, _≤_}
 use mathlib.Core.Path.{_≡_}
 use mathlib.Core.List.{List}
 use lib.ListN.{length, take, drop}
-use Rattle.program_names.specs.declared.Span.{Span}
+use Rattle.program_table.specs.declared.Span.{Span}
 
 pub record Spans (text : List ℕ) (s : Span) (part : List ℕ) : Type 0 where
   pub low : s .start ≤ s .end

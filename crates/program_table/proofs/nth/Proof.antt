@@ -1,4 +1,4 @@
--- `program_names::nth` meets its contract: each turn passes one line. Assumes nothing.
+-- `program_table::nth` meets its contract: each turn passes one line. Assumes nothing.
 use borrow.Author.Needs.{needs}
 use Prim.Native.Nat.{ℕ, suc, _+_, _-_, _<_, _≤_}
 use native.Mathlib.Omega.{arith}
@@ -9,8 +9,8 @@ use Rattle.program_words.specs.Cut.{newline, pieces}
 use Rattle.program_words.specs.Stops.{Scanned}
 use Rattle.program_words.proofs.Scans.{scanned}
 use Rattle.program_words.proofs.Pieces.{first-piece, last-piece, next-piece}
-use Rattle.program_names.proofs.nth.Statement.{statement}
-use Rattle.program_names.proofs.nth.Tie as tie
+use Rattle.program_table.proofs.nth.Statement.{statement}
+use Rattle.program_table.proofs.nth.Tie as tie
 
 abbrev Inv-loop : tie.InvT-loop
 Inv-loop lines n at₀ k₀ at k =

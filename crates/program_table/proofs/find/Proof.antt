@@ -1,4 +1,4 @@
--- `program_names::find` meets its contract: each turn passes one line. Assumes nothing.
+-- `program_table::find` meets its contract: each turn passes one line. Assumes nothing.
 use borrow.Author.Needs.{needs}
 use Prim.Native.Nat.{ℕ, suc, _+_, _-_, _<_, _≤_}
 use native.Mathlib.Nat.{add-zero}
@@ -10,10 +10,10 @@ use Rattle.program_words.specs.Cut.{newline, pieces}
 use Rattle.program_words.specs.Stops.{Scanned}
 use Rattle.program_words.proofs.Scans.{scanned}
 use Rattle.program_words.proofs.Pieces.{first-piece, last-piece, next-piece}
-use Rattle.program_names.specs.Names.{place}
-use Rattle.program_names.proofs.Places.{place-here, place-later}
-use Rattle.program_names.proofs.find.Statement.{statement}
-use Rattle.program_names.proofs.find.Tie as tie
+use Rattle.program_table.specs.Place.{place}
+use Rattle.program_table.proofs.Places.{place-here, place-later}
+use Rattle.program_table.proofs.find.Statement.{statement}
+use Rattle.program_table.proofs.find.Tie as tie
 
 abbrev Inv-loop : tie.InvT-loop
 Inv-loop lines line at₀ n₀ at n =
