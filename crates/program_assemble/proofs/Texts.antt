@@ -14,10 +14,11 @@ use Rattle.program_digits.proofs.Puts.{then, no-more, said-as, whole}
 use Rattle.program_words.specs.Cut.{newline, pieces}
 use Rattle.program_words.specs.Stops.{Scanned}
 use Rattle.program_words.proofs.Pieces.{first-piece, last-piece, next-piece}
+use Rattle.program_answer.specs.Answer.{output-alone, said-alone}
 use Rattle.program_line.specs.Line.{Line, empty, step, refused, line}
 use Rattle.program_line.specs.Reads.{ReadAs}
 use Rattle.program_line.specs.declared.Read.{Read}
-use Rattle.program_assemble.specs.Text.{Assembled, after-them, wrong-line, next-line, of-lines, assembled, complaint, complained, answered, told}
+use Rattle.program_assemble.specs.Text.{Assembled, after-them, wrong-line, next-line, of-lines, assembled, complaint, answered, told}
 use Rattle.program_assemble.specs.Meaning.{added, room-after, fault, TakesLine, Assembles}
 use Rattle.program_assemble.specs.declared.Taken.{Taken}
 use Rattle.program_assemble.specs.declared.Assembly.{Assembly}
@@ -177,12 +178,12 @@ module _ {text start out two : List ℕ} {from at n k end : ℕ} (r : Taken) (p 
 
 -- what is told of a text
 module _ (text : List ℕ) where
-  pub told-long : 65536 < length text → told text ≡ complained (length (pieces newline (take 65536 text))) 8
+  pub told-long : 65536 < length text → told text ≡ said-alone (complaint (length (pieces newline (take 65536 text))) 8)
   unfolding told
   told-long h = rw (lt-leb (length text) 65536 h)
 
   module _ (h : length text ≤ 65536) (r : Assembly) (before after : List ℕ) (a : Assembles (assembled text) before after r) where
-    pub told-wrong : (r .reason ≡ 0 → ⊥) → told text ≡ complained (r .line) (r .reason)
+    pub told-wrong : (r .reason ≡ 0 → ⊥) → told text ≡ said-alone (complaint (r .line) (r .reason))
     unfolding told
     told-wrong k = rw (le-leb (length text) 65536 h, ← a .reason, ne-eqb (r .reason) 0 k, ← a .line)
 
@@ -193,7 +194,7 @@ module _ (text : List ℕ) where
       pub list-fits : 32 * r .steps ≤ length after
       list-fits = rw there (simp length-append (omega (arith, a .steps)))
 
-      pub told-list : r .reason ≡ 0 → told text ≡ record { output = take (32 * r .steps) after; said = [] }
+      pub told-list : r .reason ≡ 0 → told text ≡ output-alone (take (32 * r .steps) after)
       unfolding told
       told-list k =
           rw (le-leb (length text) 65536 h, ← a .reason, eq-eqb (r .reason) 0 k, there, a .steps, take-append-seam)

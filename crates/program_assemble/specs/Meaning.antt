@@ -5,11 +5,9 @@ use mathlib.Core.List.{List, []}
 use lib.ListN.{length}
 use Rattle.program_digits.specs.Put.{written, Wrote}
 use Rattle.program_line.specs.Line as text
-use Rattle.program_assemble.specs.Text as whole
 use Rattle.program_assemble.specs.Text.{Assembled, too-many}
 use Rattle.program_assemble.specs.declared.Assembly.{Assembly}
 use Rattle.program_assemble.specs.declared.Taken.{Taken}
-use Rattle.program_assemble.specs.declared.Told.{Told}
 
 -- Of a line, with room for so many steps: what it adds, the room after it, and why it is wrong, or 0.
 abbrev pub added : ℕ → text.Line → List ℕ
@@ -45,8 +43,3 @@ pub record Assembles (a : Assembled) (before after : List ℕ) (r : Assembly) : 
   pub line : r .line ≡ a .line
   pub reason : r .reason ≡ a .reason
   pub written : after ≡ written before 0 (a .steps)
-
--- both lent lists after an answer, and how much of each was written
-pub record Tells (t : whole.Told) (out err out-after err-after : List ℕ) (r : Told) : Type 0 where
-  pub output : Wrote out 0 (t .output) out-after (r .output)
-  pub said : Wrote err 0 (t .said) err-after (r .said)

@@ -8,6 +8,7 @@ use lib.ListN.{length, getD, take}
 use Rattle.program_digits.specs.Codes.{codes}
 use Rattle.program_digits.specs.Digits.{decimal}
 use Rattle.program_words.specs.Cut.{newline, pieces}
+use Rattle.program_answer.specs.Answer.{Answer, output-alone, said-alone}
 use Rattle.program_line.specs.Line.{Line, empty, step, refused, line}
 
 -- The bytes of the steps of a text's lines, up to the first line that stands for none; that line's number, "counted from 1", and why. 0 and 0 where there is no
@@ -63,21 +64,15 @@ unfoldable pub complaint : ℕ → ℕ → List ℕ
 unfolding codes
 complaint k r = (codes "assemble: line " ++ decimal k) ++ (codes ": " ++ (why r ++ codes "\n"))
 
--- What goes to standard output and to standard error: "a list; or nothing on standard output, .. and one line on standard error". A text above 65,536 bytes is not
--- read to its end, so the line with the first byte above them is named.
-pub record Told : Type 0 where
-  pub output : List ℕ
-  pub said : List ℕ
-
-abbrev pub complained : ℕ → ℕ → Told
-complained k r = record { output = []; said = complaint k r }
-
-abbrev pub answered : Assembled → Told
-answered a = cond (eqb (a .reason) 0) (record { output = a .steps; said = [] }) (complained (a .line) (a .reason))
+-- "a list; or nothing on standard output, .. and one line on standard error". A text above 65,536 bytes is not read to its end, so the line with the first byte
+-- above them is named.
+abbrev pub answered : Assembled → Answer
+answered a = cond (eqb (a .reason) 0) (output-alone (a .steps)) (said-alone (complaint (a .line) (a .reason)))
 
 abbrev pub too-long : ℕ
 too-long = 8
 
-unfoldable pub told : List ℕ → Told
+unfoldable pub told : List ℕ → Answer
 told text =
-    cond (leb (length text) 65536) (answered (assembled text)) (complained (length (pieces newline (take 65536 text))) too-long)
+    cond (leb (length text) 65536) (answered (assembled text))
+    (said-alone (complaint (length (pieces newline (take 65536 text))) too-long))

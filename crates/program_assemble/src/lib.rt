@@ -1,10 +1,12 @@
 // A whole text read: the step list that it stands for, or its first line that stands for no step, and what the program `assemble` writes.
 ghost use Prim.Native.Nat.{_≤_};
 ghost use mathlib.Core.Path.{_≡_};
+ghost use Rattle.program_answer.specs.Tells.{Tells};
 ghost use Rattle.program_digits.specs.Put.{Wrote};
 ghost use Rattle.program_line.specs.Line.{line as the-line};
-ghost use Rattle.program_assemble.specs.Meaning.{TakesLine, Assembles, Tells};
+ghost use Rattle.program_assemble.specs.Meaning.{TakesLine, Assembles};
 ghost use Rattle.program_assemble.specs.Text.{assembled, why, complaint, told};
+use program_answer::Told;
 use program_words::Stop;
 
 // The steps that a text gives, and the number of its first wrong line and why it is wrong; 0 and 0 where none is.
@@ -19,12 +21,6 @@ pub struct Taken {
     pub steps: usize,
     pub at: usize,
     pub reason: u8,
-}
-
-// How many bytes go to standard output and to standard error.
-pub struct Told {
-    pub output: usize,
-    pub said: usize,
 }
 
 // Puts the step of a line, if it has one, after those before it.
