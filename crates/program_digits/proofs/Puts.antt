@@ -9,7 +9,7 @@ use native.Mathlib.Omega.{arith}
 use lib.Dec.{T, leb, leb→le, nleb→lt}
 use lib.ListN.{length, take, drop, length-append, length-take, length-drop, take-append-drop, drop-of-length-le}
 use lib.Seq.{paste, take-at, drop-append-add, drop-drop, length-take-le, take-all, take-append-seam}
-use Rattle.program_digits.specs.Put.{fitting, written, Wrote}
+use Rattle.program_digits.specs.Put.{fitting, written, Wrote, Filled}
 
 -- the first k of two texts, one after the other
 take-both : (k : ℕ) (a b : List ℕ) → take k (a ++ b) ≡ take k a ++ take (k - length a) b
@@ -101,12 +101,18 @@ no-more out at =
 pub said-as : {out left a b : List ℕ} {at r : ℕ} → b ≡ a → Wrote out at a left r → Wrote out at b left r
 said-as e p = rw e p
 
+-- what is put from here on completes the whole: what a loop that puts one text after another keeps
+abbrev pub Completes : (out₀ : List ℕ) (at : ℕ) (all out : List ℕ) (next : ℕ) (rest : List ℕ) → Type 0
+Completes out₀ at all out next rest = (left : List ℕ) (r : ℕ) → Wrote out next rest left r → Wrote out₀ at all left r
+
 -- a text that has room is there, and the rest of the list stays
-pub whole : {out left a : List ℕ} {r : ℕ} → length a ≤ length out → Wrote out 0 a left r → (r ≡ length a) × (left ≡ a ++ drop (length a) out)
+pub filled : {out left a : List ℕ} {n r : ℕ} → length a ≤ n → length out ≡ n → Wrote out 0 a left r → Filled out a left r
 unfolding written
-whole {out} {left} {a} {r} h p =
+filled {out} {left} {a} {n} {r} h e p =
     let all : fitting out 0 a ≡ a = take-all (length out - 0) a (omega arith) in
-    (p .next ∙ rw (all, zero-add), p .is ∙ rw (all, zero-add))
+    let count : r ≡ length a = p .next ∙ rw (all, zero-add) in
+    let room : r ≤ length left = omega (arith, ap length (p .is) ∙ length-written out 0 a) in
+    record { count = count; is = p .is ∙ rw (all, zero-add); room = room; part = sym (length-take-le r left room) }
 
 -- what the loop of `put` leaves
 pub pasted : (out : List ℕ) (at : ℕ) (text : List ℕ) (n : ℕ) → n ≡ min (length out - at) (length text) → Wrote out at text (paste out at text n) (at + n)
