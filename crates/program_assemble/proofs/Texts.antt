@@ -1,16 +1,19 @@
 -- A text, line by line. Assumes nothing.
 use mathlib.Core.Path.{_≡_, refl, sym, ap, _∙_}
-use mathlib.Core.Bool.{Bool, true, false, cond}
-use mathlib.Core.List.{List, [], _∷_, _++_, append-assoc, append-nil}
+use mathlib.Core.Bool.{Bool, true, false, cond, _&&_}
+use mathlib.Core.List.{List, [], _∷_, _++_, map, append-assoc, append-nil}
 use Prim.Native.Nat.{ℕ, zero, suc, _+_, _-_, _*_, _<_, _≤_}
 use native.Mathlib.Numerals.{add-one}
 use native.Mathlib.Omega.{arith}
-use borrow.Author.Tests.{eq-eqb, ne-eqb, le-leb, lt-leb}
+use borrow.Author.Tests.{eq-eqb, ne-eqb, le-leb, lt-leb, leb-true}
 use lib.Dec.{eqb, leb}
-use lib.ListN.{length, take, drop, length-append}
+use lib.ListN.{length, getD, take, drop, length-append, length-take}
 use lib.Seq.{take-append-seam}
+use Rattle.program_digits.specs.Codes.{codes}
+use Rattle.program_digits.proofs.Laws.{decimal-length}
+use Rattle.program_names.proofs.Table.{both-left, both-right}
 use Rattle.program_digits.specs.Put.{written, Wrote}
-use Rattle.program_digits.proofs.Puts.{then, no-more, said-as, whole}
+use Rattle.program_digits.proofs.Puts.{then, no-more, filled}
 use Rattle.program_words.specs.Cut.{newline, pieces}
 use Rattle.program_words.specs.Stops.{Scanned}
 use Rattle.program_words.proofs.Pieces.{first-piece, last-piece, next-piece}
@@ -18,10 +21,14 @@ use Rattle.program_answer.specs.Answer.{output-alone, said-alone}
 use Rattle.program_line.specs.Line.{Line, empty, step, refused, line}
 use Rattle.program_line.specs.Reads.{ReadAs}
 use Rattle.program_line.specs.declared.Read.{Read}
-use Rattle.program_assemble.specs.Text.{Assembled, after-them, wrong-line, next-line, of-lines, assembled, complaint, answered, told}
+use Rattle.program_assemble.specs.Text.{Assembled, after-them, wrong-line, next-line, of-lines, assembled, reasons, why, complaint, answered, told}
 use Rattle.program_assemble.specs.Meaning.{added, room-after, fault, TakesLine, Assembles}
 use Rattle.program_assemble.specs.declared.Taken.{Taken}
 use Rattle.program_assemble.specs.declared.Assembly.{Assembly}
+
+abbrev every-short : List (List ℕ) → Bool
+every-short [] = true
+every-short (w ∷ ws) = leb (length w) 35 && every-short ws
 
 -- what the code read
 module _ (r : Read) (l : Line) (e : ReadAs l r) where
@@ -176,6 +183,19 @@ module _ {text start out two : List ℕ} {from at n k end : ℕ} (r : Taken) (p 
             ∙ rw (eq-eqb (r .reason) 0 h, add-one k, append-assoc);
       }
 
+-- how long they are
+whys : (r : ℕ) (ls : List (List ℕ)) → (l : every-short ls ≡ true) → length (getD ls r []) ≤ 35
+whys r [] l = omega arith
+whys zero (w ∷ ws) l = leb-true (length w) 35 (both-left (leb (length w) 35) _ l)
+whys (suc r) (w ∷ ws) l = whys r ws (both-right (leb (length w) 35) _ l)
+
+pub complaint-length : (k r : ℕ) → length (complaint k r) ≤ 128
+unfolding complaint why reasons codes
+complaint-length k r = simp length-append (omega (arith, decimal-length k, whys r (map codes reasons) refl))
+
+pub list-short : (r : Assembly) (after : List ℕ) → r .steps ≤ 256 → length (take (32 * r .steps) after) ≤ 8192
+list-short r after h = omega (arith, length-take (32 * r .steps) after)
+
 -- what is told of a text
 module _ (text : List ℕ) where
   pub told-long : 65536 < length text → told text ≡ said-alone (complaint (length (pieces newline (take 65536 text))) 8)
@@ -189,7 +209,7 @@ module _ (text : List ℕ) where
 
     module _ (room : 8192 ≤ length before) where
       there : after ≡ assembled text .steps ++ drop (length (assembled text .steps)) before
-      there = whole (omega (arith, a .steps, a .most)) (record { next = refl; is = a .written }) .1
+      there = filled {n = length before} (omega (arith, a .steps, a .most)) refl (record { next = refl; is = a .written }) .is
 
       pub list-fits : 32 * r .steps ≤ length after
       list-fits = rw there (simp length-append (omega (arith, a .steps)))

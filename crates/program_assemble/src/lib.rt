@@ -117,7 +117,7 @@ fn put_complaint(out: &mut [u8], line: usize, reason: u8) -> usize
 }
 
 // What the program `assemble` writes for a text on standard input: a list on standard output, or a line on standard error.
-pub fn assemble(text: &[u8], output: &mut [u8], said: &mut [u8]) -> Told
+pub fn assemble(text: &[u8], output: &mut [u8; 8192], said: &mut [u8; 128]) -> Told
     ensures { λ r. ⌜ Tells (told (now (text .entry))) (now (output .entry)) (now (said .entry)) (now (output .exit)) (now (said .exit)) r ⌝ }
 {
     if text.len() > 65536 {

@@ -43,7 +43,7 @@ fn put_steps(out: &mut [u8], list: &[u8]) -> usize
 }
 
 // What the program `disassemble` writes for a list on standard input: its text on standard output, or a line on standard error.
-pub fn disassemble(list: &[u8], output: &mut [u8], said: &mut [u8]) -> Told
+pub fn disassemble(list: &[u8], output: &mut [u8; 65536], said: &mut [u8; 32]) -> Told
     ensures { λ r. ⌜ Tells (told (now (list .entry))) (now (output .entry)) (now (said .entry)) (now (output .exit)) (now (said .exit)) r ⌝ }
 {
     let refused = limits::judge(list.len(), 0, 256);

@@ -11,9 +11,9 @@ use lib.ListN.{length, getD, take, drop, length-append}
 use lib.Seq.{take-append-seam}
 use Rattle.program_digits.specs.Codes.{codes}
 use Rattle.program_digits.specs.Digits.{hex, hex-bytes}
-use Rattle.program_digits.specs.Put.{Wrote}
+use Rattle.program_digits.specs.Put.{Wrote, Filled}
 use Rattle.program_digits.proofs.Laws.{length-digits, decimal-length}
-use Rattle.program_digits.proofs.Puts.{then, no-more, said-as, whole as put-whole}
+use Rattle.program_digits.proofs.Puts.{then, filled}
 use Rattle.program_words.specs.Cut.{same}
 use Rattle.program_names.specs.Names.{name}
 use Rattle.program_names.proofs.Table.{name-length}
@@ -143,14 +143,14 @@ module _ (r : Read) (l : Line) (s : List ℕ) (e : ReadAs l r) where
 
 -- a plain line that is tried
 module _ {zeros trial : List ℕ} {n : ℕ} (s : List ℕ) (z : length zeros ≡ 256) (w : Wrote zeros 0 (plain s) trial n) where
-  there : (n ≡ length (plain s)) × (trial ≡ plain s ++ drop (length (plain s)) zeros)
-  there = put-whole (omega (arith, plain-length s)) w
+  there : Filled zeros (plain s) trial n
+  there = filled (omega (arith, plain-length s)) z w
 
   trial-is : take n trial ≡ plain s
-  trial-is = rw (there .0, there .1) (take-append-seam (plain s) (drop (length (plain s)) zeros))
+  trial-is = rw (there .count, there .is) (take-append-seam (plain s) (drop (length (plain s)) zeros))
 
   pub trial-fits : n ≤ length trial
-  trial-fits = rw (there .1) (simp length-append (omega (arith, there .0)))
+  trial-fits = there .room
 
   pub put-plainly : {out o1 : List ℕ} {at r : ℕ} → true ≡ says (line (take n trial)) s → Wrote out at (take n trial) o1 r → Wrote out at (shown s) o1 r
   unfolding shown

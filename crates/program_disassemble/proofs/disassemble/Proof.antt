@@ -1,8 +1,10 @@
 -- `program_disassemble::disassemble` meets its contract, by what is judged of the length. Assumes nothing.
 use borrow.Author.Needs.{needs}
+use mathlib.Core.Path.{sym, _∙_}
 use Rattle.program_digits.specs.Codes.{codes}
-use Rattle.program_digits.proofs.Puts.{no-more}
-use Rattle.program_disassemble.proofs.Lines.{told-refused, told-text}
+use Rattle.program_digits.proofs.Puts.{filled}
+use Rattle.program_answer.proofs.None.{none}
+use Rattle.program_disassemble.proofs.Lines.{said-length, text-length, told-refused, told-text}
 use Rattle.program_disassemble.proofs.disassemble.Statement.{statement}
 use Rattle.program_disassemble.proofs.disassemble.Tie as tie
 
@@ -18,25 +20,21 @@ cast-put-count c = search needs
 put-count-requires : tie.Need-put-count-requires
 put-count-requires c κs = search needs
 
-same-length : tie.Need-same-length
-same-length c = search needs
-
 returns : tie.Need-returns
 unfolding codes
 returns c =
-    rw (told-refused _ (c .before .before .before .before .before .before .judge .result) (c .before .before .before .before .before .before .judge .ensures) (c .before .before .before .before .before .if1 .taken))
-    (record { output = no-more _ _; said = c .before .before .put-count .ensures })
+    let judged = c .before .before .before .before .judge in
+    rw (told-refused _ (judged .result) (judged .ensures) (c .before .before .before .if1 .taken))
+    (record { output = none _; said = filled (said-length (judged .result)) (search needs) (c .put-count .ensures) })
 
 put-steps-requires : tie.Need-put-steps-requires
 put-steps-requires c κs = search needs
 
-same-length-2 : tie.Need-same-length-2
-same-length-2 c = search needs
-
 returns-2 : tie.Need-returns-2
 returns-2 c =
-    rw (told-text _ (c .before .before .before .before .before .judge .result) (c .before .before .before .before .before .judge .ensures) (search needs))
-    (record { output = c .before .before .put-steps .ensures; said = no-more _ _ })
+    let judged = c .before .before .before .judge in
+    rw (told-text _ (judged .result) (judged .ensures) (search needs))
+    (record { output = filled (text-length (c .before .before .before .before .before .args .list .now) (sym (judged .ensures) ∙ search needs)) (search needs) (c .put-steps .ensures); said = none _ })
 
 pub disassemble-spec : {M : Type 1} → statement M
 disassemble-spec =
@@ -46,8 +44,6 @@ disassemble-spec =
     slice-aggregate-put-count
     cast-put-count
     put-count-requires
-    same-length
     returns
     put-steps-requires
-    same-length-2
     returns-2)
