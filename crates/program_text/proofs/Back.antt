@@ -68,15 +68,15 @@ none false true c d e = absurd (false≢true (sym e))
 none false false c d e = (refl, refl, e)
 
 module _ (c : ℕ) (e : odd c ≡ false) where
-  parts : (newline c ≡ false) × (blank c ≡ false) × (tick c ≡ false)
+  pub parts : (newline c ≡ false) × (blank c ≡ false) × (tick c ≡ false)
   parts = none (newline c) (blank c) (eqb c 35) (eqb c 59) e
 
-free-less : (q : ℕ → Bool) → ((c : ℕ) → odd c ≡ false → q c ≡ false) → (xs : List ℕ) → free odd xs ≡ true → free q xs ≡ true
+pub free-less : (q : ℕ → Bool) → ((c : ℕ) → odd c ≡ false → q c ≡ false) → (xs : List ℕ) → free odd xs ≡ true → free q xs ≡ true
 free-less q h [] e = refl
 free-less q h (x ∷ xs) e = let p = passes (odd x) (free odd xs) e in rw (h x (p .0)) (free-less q h xs (p .1))
 
--- what is written is free of what a space, an `r` and no plain character is
-module _ (q : ℕ → Bool) (plainly : (c : ℕ) → odd c ≡ false → q c ≡ false) (space : q 32 ≡ false) (r : q 114 ≡ false) (word-packed : free q (codes " packed") ≡ true) (word-step : free q (codes "step") ≡ true) where
+-- digits are plain characters
+module _ (q : ℕ → Bool) (plainly : (c : ℕ) → odd c ≡ false → q c ≡ false) where
   free-digits : (base k n : ℕ) → 0 < base → base ≤ 16 → free q (digits base k n) ≡ true
   unfolding digits
   free-digits base zero n h l = refl
@@ -88,16 +88,18 @@ module _ (q : ℕ → Bool) (plainly : (c : ℕ) → odd c ≡ false → q c ≡
   unfolding decimal
   free-decimal n = free-digits 10 (places 19 n) n (omega arith) (omega arith)
 
+-- and so is a line, where a space, an `r` and the words are
+module _ (q : ℕ → Bool) (plainly : (c : ℕ) → odd c ≡ false → q c ≡ false) (space : q 32 ≡ false) (r : q 114 ≡ false) (word-packed : free q (codes " packed") ≡ true) (word-step : free q (codes "step") ≡ true) where
   free-field : (f : Field) (p b : ℕ) → free q (field f p b) ≡ true
   unfolding field codes
-  free-field register p b = rw (space, r) (free-decimal b)
-  free-field lane p b = rw space (free-decimal b)
-  free-field a-mark p b = rw space (free-decimal b)
+  free-field register p b = rw (space, r) (free-decimal q plainly b)
+  free-field lane p b = rw space (free-decimal q plainly b)
+  free-field a-mark p b = rw space (free-decimal q plainly b)
   free-field byte p b = by (eqb (p % 4) 0)
     where
       by : (t : Bool) → free q (cond t (codes " ") [] ++ hex 2 b) ≡ true
-      by true = rw space (free-digits 16 2 b (omega arith) (omega arith))
-      by false = free-digits 16 2 b (omega arith) (omega arith)
+      by true = rw space (free-digits q plainly 16 2 b (omega arith) (omega arith))
+      by false = free-digits q plainly 16 2 b (omega arith) (omega arith)
 
   free-fields : (f : Field) (n p : ℕ) (s : List ℕ) → free q (fields f n p s) ≡ true
   unfolding fields
@@ -226,7 +228,7 @@ starts : (s : List ℕ) → fields byte 32 0 s ≡ 32 ∷ (hex 2 (getD s 0 0) ++
 unfolding fields field codes
 starts s = refl
 
-ended : (s : List ℕ) → end-line (going [] s) ≡ step s
+pub ended : (s : List ℕ) → end-line (going [] s) ≡ step s
 unfolding onward
 ended s = refl
 
@@ -299,7 +301,7 @@ piece-ends k s =
     let l = shown s in
     free-append newline (l ++ (replicate (64 - length l) 32 ++ (32 ∷ []))) (35 ∷ 32 ∷ decimal k)
     (free-append newline l (replicate (64 - length l) 32 ++ (32 ∷ [])) (free-shown newline (λ c e. parts c e .0) refl refl refl refl s) (blanks (64 - length l)))
-    (free-decimal newline (λ c e. parts c e .0) refl refl refl refl k)
+    (free-decimal newline (λ c e. parts c e .0) k)
   where
     blanks : (n : ℕ) → free newline (replicate n 32 ++ (32 ∷ [])) ≡ true
     blanks zero = refl

@@ -1,3 +1,4 @@
 pub mod Back
 pub mod Freedom
+pub mod Plain
 pub mod Tidy
