@@ -1,4 +1,4 @@
--- One link more, one byte more of a link, one byte more in hex. Assumes nothing.
+-- One link more, one byte more of a link. Assumes nothing.
 use mathlib.Core.Path.{_≡_, refl, sym, ap, ap₂, _∙_}
 use mathlib.Core.List.{List, [], _∷_, _++_, append-assoc}
 use Prim.Native.Nat.{ℕ, zero, suc, _+_, _*_, _/_, _%_, _<_, _≤_}
@@ -6,8 +6,7 @@ use native.Mathlib.Numerals.{add-one}
 use native.Mathlib.Omega.{arith}
 use lib.ListN.{length, getD, set, take, drop, length-set, length-drop}
 use lib.Seq.{take-suc, take-all, take-suc-set, take-set-le, getD-drop, drop-drop}
-use Rattle.io.specs.Digits.{glyph, digits}
-use Rattle.fold.specs.Text.{links, hex-bytes}
+use Rattle.fold.specs.Text.{links}
 
 -- a list filled from its start, by one more element
 pub filled : {A : Type 0} (l : List A) (n : ℕ) (a : A) → n < length l → take (n + 1) (set l n a) ≡ take n l ++ (a ∷ [])
@@ -38,24 +37,3 @@ pub links-more : (ls : List (List ℕ)) (bytes link : List ℕ) (k : ℕ) → k 
     → take (k + 1) (set ls k link) ≡ links (k + 1) bytes
 links-more ls bytes link k h e p =
     filled ls k link h ∙ ap₂ (λ (r : List (List ℕ)) (l : List ℕ). r ++ (l ∷ [])) p e ∙ sym (rw add-one (link-more k bytes))
-
--- two digits of a byte
-hex-more : (xs : List ℕ) (b : ℕ) → hex-bytes (xs ++ (b ∷ [])) ≡ hex-bytes xs ++ digits 16 2 b
-unfolding hex-bytes
-hex-more [] b = refl
-hex-more (x ∷ xs) b = ap (λ (r : List ℕ). digits 16 2 x ++ r) (hex-more xs b) ∙ sym (append-assoc (digits 16 2 x) (hex-bytes xs) (digits 16 2 b))
-
-pub digits-more : (out bytes : List ℕ) (i p q : ℕ) → 2 * i + 1 < length out → i < length bytes → p ≡ glyph (getD bytes i 0 / 16 % 16)
-    → q ≡ glyph (getD bytes i 0 % 16)
-    → take (2 * i) out ≡ hex-bytes (take i bytes) → take (2 * (i + 1)) (set (set out (2 * i) p) (2 * i + 1) q) ≡ hex-bytes (take (i + 1) bytes)
-digits-more out bytes i p q h k ep eq e =
-    ap (λ (n : ℕ). take n (set (set out (2 * i) p) (2 * i + 1) q)) (let z : 2 * (i + 1) ≡ 2 * i + 1 + 1 = omega arith in z)
-    ∙ filled (set out (2 * i) p) (2 * i + 1) q (simp length-set (omega arith))
-    ∙ ap (λ (l : List ℕ). l ++ (q ∷ [])) (filled out (2 * i) p (omega arith) ∙ ap (λ (l : List ℕ). l ++ (p ∷ [])) e)
-    ∙ append-assoc (hex-bytes (take i bytes)) (p ∷ []) (q ∷ [])
-    ∙ ap₂ (λ (x y : ℕ). hex-bytes (take i bytes) ++ (x ∷ y ∷ [])) ep eq
-    ∙ sym (ap hex-bytes (one-more bytes i 0 k) ∙ hex-more (take i bytes) (getD bytes i 0))
-
-pub all-digits : (out bytes : List ℕ) → length out ≡ 32 → length bytes ≡ 16 → take (2 * 16) out ≡ hex-bytes (take 16 bytes) → out ≡ hex-bytes bytes
-all-digits out bytes lo lb e =
-    sym (take-all 32 out (omega (arith, lo))) ∙ e ∙ ap hex-bytes (take-all 16 bytes (omega (arith, lb)))

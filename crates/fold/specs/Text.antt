@@ -1,11 +1,11 @@
--- What the program `fold` reads and writes, as lists of bytes: a chain is its links, "17 bytes a link"; indices are two hex digits each, the first index
--- first, in the digits by which the kit's `io` writes a number.
+-- What the program `fold` reads and writes, as lists of bytes: a chain is its links, "17 bytes a link".
 use Prim.Native.Nat.{ℕ, zero, suc, _/_}
 use mathlib.Core.Bool.{cond}
-use mathlib.Core.List.{List, [], _∷_, _++_}
+use mathlib.Core.List.{List, [], _∷_}
 use lib.Dec.{ltb}
-use lib.ListN.{take, drop}
-use Rattle.io.specs.Digits.{digits}
+use lib.ListN.{take, drop, replicate}
+use Rattle.chain.specs.Definition.{refusal, folded, left}
+use Rattle.program_lines.specs.Lines.{fold}
 
 -- The first n links of the bytes.
 unfoldable pub links : ℕ → List ℕ → List (List ℕ)
@@ -16,6 +16,6 @@ links (suc n) bytes = take 17 bytes ∷ links n (drop 17 bytes)
 abbrev pub links-in : ℕ → ℕ
 links-in n = cond (ltb n 273) (n / 17) 17
 
-unfoldable pub hex-bytes : List ℕ → List ℕ
-hex-bytes [] = []
-hex-bytes (b ∷ bs) = digits 16 2 b ++ hex-bytes bs
+-- what the program writes of a chain: the indices of the one shuffle that does the same, or the number of the refusal
+unfoldable pub text : List (List ℕ) → List ℕ
+text chain = fold (refusal chain) (left (refusal chain) (folded chain) (replicate 16 0))

@@ -1,10 +1,10 @@
 // The program `fold` (document 02, order 13): folds the chain of shuffles on standard input, 17 bytes a link, and writes the sixteen indices of the one shuffle
 // that does the same.
-ghost use Prim.Native.Nat.{_*_, _%_, _<_, _≤_};
+ghost use Prim.Native.Nat.{_*_, _<_, _≤_};
 ghost use mathlib.Core.Path.{_≡_};
 ghost use lib.ListN.{take, drop};
-ghost use Rattle.io.specs.Digits.{glyph};
-ghost use Rattle.fold.specs.Text.{links, links-in, hex-bytes};
+ghost use Rattle.program_digits.specs.Put.{Filled};
+ghost use Rattle.fold.specs.Text.{links, links-in, text};
 use libc::STDERR_FILENO;
 use libc::STDOUT_FILENO;
 
@@ -43,39 +43,15 @@ fn links_in(n: usize) -> usize
     if n < DECIDES { n / LINK } else { 17 }
 }
 
-// The last hex digit of a number.
-fn digit(n: u8) -> u8
-    ensures { λ r. ⌜ r ≡ glyph (n % 16) ⌝ }
+// All bytes that the program writes of a chain, the first so many of these bytes.
+fn answer(bytes: [u8; 289], n: usize, out: &mut [u8; 128]) -> usize
+    ensures { λ r. ⌜ Filled (now (out .entry)) (text (take (links-in n) (links 17 bytes))) (now (out .exit)) r ⌝ }
 {
-    let last = n % 16;
-    if last < 10 {
-        b'0' + last
-    } else {
-        b'a' - 10 + last
-    }
-}
-
-// Two digits for each byte.
-fn hex(bytes: [u8; 16]) -> [u8; 32]
-    ensures { λ r. ⌜ r ≡ hex-bytes bytes ⌝ }
-{
-    let mut out = [0u8; 32];
-    for i in 0..16 {
-        out[2 * i] = digit(bytes[i] / 16);
-        out[2 * i + 1] = digit(bytes[i]);
-    }
-    out
-}
-
-fn put(bytes: &[u8]) -> bool {
-    io::write_all(STDOUT_FILENO, bytes)
-}
-
-fn write(refused: u8, indices: [u8; 16]) -> bool {
-    (refused != 0 || (put(b"indices ") && put(&hex(indices)) && put(b"\n")))
-        && put(b"refused ")
-        && io::print_decimal(STDOUT_FILENO, refused as u64)
-        && put(b"\n")
+    let count = links_in(n);
+    let links = links_of(bytes);
+    let mut indices = [0u8; 16];
+    let refused = chain_fold::fold(&links[..count], &mut indices);
+    program_lines::fold(refused, indices, out)
 }
 
 fn main() {
@@ -100,11 +76,9 @@ fn main() {
         );
         return;
     }
-    let count = links_in(n);
-    let links = links_of(bytes);
-    let mut indices = [0u8; 16];
-    let refused = chain_fold::fold(&links[..count], &mut indices);
-    if !write(refused, indices) {
+    let mut out = [0u8; 128];
+    let written = answer(bytes, n, &mut out);
+    if !io::write_all(STDOUT_FILENO, &out[..written]) {
         os::fail(b"fold: standard output");
     }
 }

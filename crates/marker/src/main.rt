@@ -5,6 +5,8 @@ ghost use mathlib.Core.Path.{_≡_};
 ghost use mathlib.Core.Bool.{true};
 ghost use mathlib.Core.List.{List, []};
 ghost use Rattle.windows.specs.Definition.{find};
+ghost use Rattle.program_digits.specs.Put.{Filled};
+ghost use Rattle.program_lines.specs.Lines.{marker};
 use arguments::Numeral;
 use finder::Answer;
 use libc::STDERR_FILENO;
@@ -21,29 +23,20 @@ enum Asked {
     Badly,
 }
 
-fn put(bytes: &[u8]) -> bool {
-    io::write_all(STDOUT_FILENO, bytes)
+// All bytes that the program writes of a buffer.
+fn answer(buffer: &[u8], task: Task, out: &mut [u8; 128]) -> usize
+    ensures { λ r. ⌜ Filled (now (out .entry)) (marker (find (now (buffer .entry)) (task .marker) (task .tolerance) (task .length))) (now (out .exit)) r ⌝ }
+{
+    program_lines::marker(
+        finder::find(buffer, task.marker, task.tolerance, task.length),
+        out,
+    )
 }
 
-fn line(name: &[u8], n: u64) -> bool {
-    put(name) && io::print_decimal(STDOUT_FILENO, n) && put(b"\n")
-}
-
-fn write(answer: Answer) -> bool {
-    match answer {
-        Answer::Found(position, first, second) => {
-            line(b"position ", position as u64)
-                && put(b"distances ")
-                && io::print_decimal(STDOUT_FILENO, first as u64)
-                && line(b" ", second as u64)
-                && line(b"refused ", 0)
-        }
-        Answer::Refused(n) => line(b"refused ", n as u64),
-    }
-}
-
-fn report(answer: Answer) {
-    if !write(answer) {
+fn report(buffer: &[u8], task: Task) {
+    let mut out = [0u8; 128];
+    let n = answer(buffer, task, &mut out);
+    if !io::write_all(STDOUT_FILENO, &out[..n]) {
         os::fail(b"marker: standard output");
     }
 }
@@ -100,7 +93,7 @@ fn main() {
         return;
     };
     if is_decided(task) {
-        report(finder::find(b"", task.marker, task.tolerance, task.length));
+        report(b"", task);
         return;
     }
     // "buffer above 65,536 bytes": one byte above decides, so no more than that is read.
@@ -111,5 +104,5 @@ fn main() {
         return;
     }
     let n = reading.bytes;
-    report(finder::find(&buffer[..n], task.marker, task.tolerance, task.length));
+    report(&buffer[..n], task);
 }

@@ -5,34 +5,25 @@ use libc::STDOUT_FILENO;
 use recording::recorder::Recorded;
 use recording::recorder::record;
 
-fn complain(line: &[u8]) {
-    io::write_all(STDERR_FILENO, line);
-}
-
-fn refuse(number: u8) {
-    complain(b"refused ");
-    io::print_decimal(STDERR_FILENO, number as u64);
-    complain(b"\n");
-}
-
 // The longest recording is 37 blocks.
 fn write_recording(list: &[u8]) {
     let mut out = [0u8; 18944];
-    match record(list, &mut out) {
-        Recorded::Bytes(length) => {
-            if !io::write_all(STDOUT_FILENO, &out[..length]) {
-                os::fail(b"record: standard output");
-            }
+    let recorded = record(list, &mut out);
+    if let Recorded::Bytes(length) = recorded {
+        if !io::write_all(STDOUT_FILENO, &out[..length]) {
+            os::fail(b"record: standard output");
         }
-        Recorded::Empty => complain(b"the list is empty\n"),
-        Recorded::Short => complain(b"record: no room\n"),
-        Recorded::Refused(number) => refuse(number),
+        return;
     }
+    let mut said = [0u8; 32];
+    let n = program_lines::record_said(recorded, &mut said);
+    io::write_all(STDERR_FILENO, &said[..n]);
 }
 
 fn main() {
     if os::arg_count() > 1 {
-        complain(
+        io::write_all(
+            STDERR_FILENO,
             b"record: takes no arguments, it reads a step list from standard input: ./record < LIST\n",
         );
         return;

@@ -1,23 +1,16 @@
 // The program `replay` (document 02, order 8): reads a recording from standard input, and writes whether every record is what the calculator's definition gives for
 // its step, or which is the first that is not, counted from 1, or why the file is no recording.
+ghost use Rattle.records.specs.Definition as records;
+ghost use Rattle.program_digits.specs.Put.{Filled};
+ghost use Rattle.program_lines.specs.Lines.{replay};
 use libc::STDERR_FILENO;
 use libc::STDOUT_FILENO;
-use trace_compare::Answer;
 
-fn put(bytes: &[u8]) -> bool {
-    io::write_all(STDOUT_FILENO, bytes)
-}
-
-fn line(name: &[u8], n: u64) -> bool {
-    put(name) && io::print_decimal(STDOUT_FILENO, n) && put(b"\n")
-}
-
-fn write(answer: Answer) -> bool {
-    match answer {
-        Answer::Agrees => put(b"agrees\n"),
-        Answer::Differs(record) => line(b"record ", record as u64),
-        Answer::Refused(number) => line(b"refused ", number as u64),
-    }
+// All bytes that the program writes of a file.
+fn answer(file: &[u8], out: &mut [u8; 32]) -> usize
+    ensures { λ r. ⌜ Filled (now (out .entry)) (replay (records.replay (now (file .entry)))) (now (out .exit)) r ⌝ }
+{
+    program_lines::replay(recording::replay::replay(file), out)
 }
 
 fn main() {
@@ -36,7 +29,9 @@ fn main() {
         return;
     }
     let n = reading.bytes;
-    if !write(recording::replay::replay(&file[..n])) {
+    let mut out = [0u8; 32];
+    let written = answer(&file[..n], &mut out);
+    if !io::write_all(STDOUT_FILENO, &out[..written]) {
         os::fail(b"replay: standard output");
     }
 }

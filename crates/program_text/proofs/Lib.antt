@@ -1,0 +1,5 @@
+pub mod Back
+pub mod Examples
+pub mod Freedom
+pub mod Plain
+pub mod Tidy
