@@ -1,9 +1,8 @@
 // The program `lanes` (document 01): "reads a step list from standard input, starts from zero registers and scalar i32 0, and writes" what the run
 // leaves: one from place 0 under limit 256 (document 02, order 12).
-use calculator::run::Outcome;
-use calculator::run::run;
 use libc::STDERR_FILENO;
-use state::State;
+use libc::STDOUT_FILENO;
+use program_listing::listing::lanes;
 
 fn main() {
     if os::arg_count() > 1 {
@@ -21,11 +20,9 @@ fn main() {
         return;
     }
     let n = reading.bytes;
-    let ending = run(State::zero(), &list[..n], 0, 256);
-    let outcome = ending.outcome;
-    let refused = match outcome {
-        Outcome::Refused(number) => number,
-        _ => 0,
-    };
-    listing::write(ending.state, ending.done, refused);
+    let mut out = [0u8; 1024];
+    let written = lanes(&list[..n], &mut out);
+    if !io::write_all(STDOUT_FILENO, &out[..written]) {
+        os::fail(b"lanes: standard output");
+    }
 }

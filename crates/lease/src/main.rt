@@ -2,11 +2,9 @@
 // list up at a place under a limit, and again after each pause at the place reported, until it ends or is refused. A line for each call; then the listing that
 // `lanes` writes, with the counts added up.
 use arguments::Numeral;
-use calculator::run::Outcome;
-use calculator::run::run;
 use libc::STDERR_FILENO;
 use libc::STDOUT_FILENO;
-use state::State;
+use program_listing::lease::lease;
 
 struct Task {
     place: u32,
@@ -16,25 +14,6 @@ struct Task {
 enum Asked {
     For(Task),
     Badly,
-}
-
-fn put(bytes: &[u8]) -> bool {
-    io::write_all(STDOUT_FILENO, bytes)
-}
-
-fn decimal(name: &[u8], n: u64) -> bool {
-    put(name) && io::print_decimal(STDOUT_FILENO, n)
-}
-
-// `steps N paused P`, `steps N ended` or `steps N refused R`
-fn line(done: usize, outcome: Outcome) -> bool {
-    let is_put = decimal(b"steps ", done as u64)
-        && match outcome {
-            Outcome::Ended => put(b" ended"),
-            Outcome::Paused(place) => decimal(b" paused ", place as u64),
-            Outcome::Refused(number) => decimal(b" refused ", number as u64),
-        };
-    is_put && put(b"\n")
 }
 
 // An argument of Linux has fewer than 131,072 bytes, so each comes whole, whatever zeros it begins with.
@@ -57,41 +36,6 @@ fn read_arguments() -> Asked {
     Asked::For(Task { place, limit })
 }
 
-// The calls, a line for each, and the listing. A limit of 0 would never come to an end, so it is one call.
-fn write_all_turns(list: &[u8], place: u32, limit: u32) {
-    let mut state = State::zero();
-    let mut at = place as usize;
-    let mut before = 0;
-    loop {
-        let ending = run(state, list, at, limit as usize);
-        state = ending.state;
-        let done = before + ending.done;
-        let outcome = ending.outcome;
-        if !line(ending.done, outcome) {
-            os::fail(b"lease: standard output");
-            return;
-        }
-        match outcome {
-            Outcome::Ended => {
-                listing::write(state, done, 0);
-                return;
-            }
-            Outcome::Refused(number) => {
-                listing::write(state, done, number);
-                return;
-            }
-            Outcome::Paused(next) => {
-                if limit == 0 {
-                    listing::write(state, done, 0);
-                    return;
-                }
-                at = next;
-                before = done;
-            }
-        }
-    }
-}
-
 fn main() {
     let Asked::For(task) = read_arguments() else {
         io::write_all(
@@ -108,5 +52,9 @@ fn main() {
         return;
     }
     let n = reading.bytes;
-    write_all_turns(&list[..n], task.place, task.limit);
+    let mut out = [0u8; 16384];
+    let written = lease(&list[..n], task.place, task.limit, &mut out);
+    if !io::write_all(STDOUT_FILENO, &out[..written]) {
+        os::fail(b"lease: standard output");
+    }
 }

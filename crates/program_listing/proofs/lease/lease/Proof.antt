@@ -1,0 +1,19 @@
+-- `program_listing::lease::lease` meets its contract. Assumes nothing.
+use borrow.Author.Needs.{needs}
+use Rattle.program_digits.proofs.Puts.{filled}
+use Rattle.program_listing.specs.Lease.{lease-text}
+use Rattle.program_listing.proofs.Calls.{lease-within}
+use Rattle.program_listing.proofs.lease.lease.Statement.{statement}
+use Rattle.program_listing.proofs.lease.lease.Tie as tie
+
+put-calls-requires : tie.Need-put-calls-requires
+put-calls-requires c κs = search needs
+
+returns : tie.Need-returns
+unfolding lease-text
+returns c =
+    let a = c .before .before .before .args in
+    filled (lease-within (a .list .now) (a .place) (a .limit)) (search needs) (c .put-calls .ensures)
+
+pub lease-spec : {M : Type 1} → statement M
+lease-spec = tie.close (tie.spec put-calls-requires returns)
