@@ -1,6 +1,9 @@
 // An operation by its number, which a loop over lanes is told.
 ghost use mathlib.Core.Path.{_≡_};
+ghost use mathlib.Core.List.{_∷_, []};
+ghost use lib.ListN.{take};
 ghost use lib.Ieee.{binary32, binary64};
+ghost use Rattle.standard.specs.Lanes.{joined, binary};
 ghost use Rattle.float_arithmetic.specs.Choose.{arithmetic-of};
 use float_least::*;
 use float_sums::*;
@@ -43,4 +46,28 @@ pub fn arithmetic64(op: u8, a: u64, b: u64) -> u64
         MAX => fmax64(a, b),
         _ => 0,
     }
+}
+
+// The two lanes before the idle places.
+fn lanes64(s: [u64; 20]) -> [u64; 2]
+    ensures { λ r. ⌜ r ≡ take 2 s ⌝ }
+{
+    [s[0], s[1]]
+}
+
+// Two lanes of 64 bits, a and b, with two others, c and d. They are followed by 18 idle places, whose results are dropped: over 12 places the loop is not
+// vectorised, over 28 or more one is left (docs/DECISIONS.md, "Idle places").
+pub fn pairs64(op: u8, a: u64, b: u64, c: u64, d: u64) -> [u64; 2]
+    ensures { λ r. ⌜ joined 64 r ≡ binary 64 (arithmetic-of binary64 op) (joined 64 (a ∷ b ∷ [])) (joined 64 (c ∷ d ∷ [])) ⌝ }
+{
+    let mut x = [0; 20];
+    let mut y = [0; 20];
+    x[0] = a;
+    x[1] = b;
+    y[0] = c;
+    y[1] = d;
+    for i in 0..20 {
+        x[i] = arithmetic64(op, x[i], y[i]);
+    }
+    lanes64(x)
 }

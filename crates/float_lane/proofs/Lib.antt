@@ -1,2 +1,4 @@
+pub mod Carry
 pub mod FloatOrder
 pub mod Nan
+pub mod Together

@@ -1,7 +1,9 @@
 // Float lanes by their patterns, and a float scalar: the number itself, or the bits of a NaN. The language's own conversions between floats and
 // bits are undefined at a NaN, so a pattern is tested first; the standard moves a NaN's sign and payload along with the rest of a lane.
 ghost use mathlib.Core.Path.{_≡_};
-ghost use mathlib.Core.Bool.{_||_, cond};
+ghost use mathlib.Core.Bool.{_||_, not, cond};
+ghost use Prim.Native.Nat.{_/_, _^_};
+ghost use lib.Dec.{eqb};
 ghost use lib.Ieee;
 ghost use lib.Ieee.{binary32, binary64, ofBits, nanBits};
 ghost use Rattle.standard.specs.Float.{fneg, fabs};
@@ -20,31 +22,59 @@ pub fn is_nan64(bits: u64) -> bool
     0x7FF0_0000_0000_0000 < bits % 0x8000_0000_0000_0000
 }
 
-// Whether one of two patterns is a NaN: then every comparison is false but "not equal" (document 01, "Lane rules").
-fn unordered32(a: u32, b: u32) -> bool
-    ensures { λ r. ⌜ r ≡ (nanBits binary32 a || nanBits binary32 b) ⌝ }
+// The same by the pattern with its sign set. Two tests of two forms have no constant in common, which the compiler would keep in a register.
+fn nan_signed32(bits: u32) -> bool
+    ensures { λ r. ⌜ r ≡ nanBits binary32 bits ⌝ }
 {
-    if is_nan32(a) { true } else { is_nan32(b) }
+    0xFF80_0000 < (bits | 0x8000_0000)
 }
 
-// 1 for a NaN, else 0: a magnitude above the infinity's, 2^63 - 2^52, carries into bit 63 when 2^52 - 1 is added. A comparison of 64-bit numbers in
-// a vector takes nine instructions, this takes half as many.
-fn nan64(bits: u64) -> u64
-    ensures { λ r. ⌜ r ≡ cond (nanBits binary64 bits) 1 0 ⌝ }
+// Whether neither of two patterns is a NaN: else every comparison is false but "not equal" (document 01, "Lane rules").
+pub fn ordered32(a: u32, b: u32) -> bool
+    ensures { λ r. ⌜ r ≡ not (nanBits binary32 a || nanBits binary32 b) ⌝ }
 {
-    (bits % 0x8000_0000_0000_0000 + 0xF_FFFF_FFFF_FFFF) / 0x8000_0000_0000_0000
+    !(is_nan32(a) | nan_signed32(b))
 }
 
-fn unordered64(a: u64, b: u64) -> bool
-    ensures { λ r. ⌜ r ≡ (nanBits binary64 a || nanBits binary64 b) ⌝ }
+// A magnitude above the infinity's, 2^63 - 2^52, carries into bit 63 when 2^52 - 1 is added. A comparison of 64-bit numbers in a vector takes nine
+// instructions, this takes two.
+fn carry64(bits: u64) -> u64
+    ensures { λ r. ⌜ r / 2 ^ 63 ≡ cond (nanBits binary64 bits) 1 0 ⌝ }
 {
-    nan64(a) + nan64(b) != 0
+    bits % 0x8000_0000_0000_0000 + 0xF_FFFF_FFFF_FFFF
 }
 
+// The same by the pattern with its sign set, as at 32 bits.
+fn carry_signed64(bits: u64) -> u64
+    ensures { λ r. ⌜ r / 2 ^ 63 ≡ cond (nanBits binary64 bits) 1 0 ⌝ }
+{
+    (bits | 0x8000_0000_0000_0000) - 0x7FF0_0000_0000_0001
+}
+
+// Whether bit 63 is clear. As a pattern the bit is zero or the smallest number above it, and a vector has a comparison of floats.
+fn clear64(bits: u64) -> bool
+    ensures { λ r. ⌜ r ≡ eqb (bits / 2 ^ 63) 0 ⌝ }
+{
+    f64::from_bits(bits / 0x8000_0000_0000_0000) < f64::from_bits(1)
+}
+
+fn is_number64(bits: u64) -> bool
+    ensures { λ r. ⌜ r ≡ not (nanBits binary64 bits) ⌝ }
+{
+    clear64(carry64(bits))
+}
+
+pub fn ordered64(a: u64, b: u64) -> bool
+    ensures { λ r. ⌜ r ≡ not (nanBits binary64 a || nanBits binary64 b) ⌝ }
+{
+    clear64(carry64(a) | carry_signed64(b))
+}
+
+// Equal numbers have one magnitude, so the bits of both together are a NaN's only where those of one are: one test does for two.
 pub fn feq32(a: u32, b: u32) -> bool
     ensures { λ r. ⌜ r ≡ Ieee.eq (ofBits binary32 a) (ofBits binary32 b) ⌝ }
 {
-    if unordered32(a, b) {
+    if is_nan32(a | b) {
         false
     } else {
         f32::from_bits(a) == f32::from_bits(b)
@@ -54,50 +84,50 @@ pub fn feq32(a: u32, b: u32) -> bool
 pub fn flt32(a: u32, b: u32) -> bool
     ensures { λ r. ⌜ r ≡ Ieee.lt (ofBits binary32 a) (ofBits binary32 b) ⌝ }
 {
-    if unordered32(a, b) {
-        false
-    } else {
+    if ordered32(a, b) {
         f32::from_bits(a) < f32::from_bits(b)
+    } else {
+        false
     }
 }
 
 pub fn fle32(a: u32, b: u32) -> bool
     ensures { λ r. ⌜ r ≡ Ieee.le (ofBits binary32 a) (ofBits binary32 b) ⌝ }
 {
-    if unordered32(a, b) {
-        false
-    } else {
+    if ordered32(a, b) {
         f32::from_bits(a) <= f32::from_bits(b)
+    } else {
+        false
     }
 }
 
 pub fn feq64(a: u64, b: u64) -> bool
     ensures { λ r. ⌜ r ≡ Ieee.eq (ofBits binary64 a) (ofBits binary64 b) ⌝ }
 {
-    if unordered64(a, b) {
-        false
-    } else {
+    if is_number64(a | b) {
         f64::from_bits(a) == f64::from_bits(b)
+    } else {
+        false
     }
 }
 
 pub fn flt64(a: u64, b: u64) -> bool
     ensures { λ r. ⌜ r ≡ Ieee.lt (ofBits binary64 a) (ofBits binary64 b) ⌝ }
 {
-    if unordered64(a, b) {
-        false
-    } else {
+    if ordered64(a, b) {
         f64::from_bits(a) < f64::from_bits(b)
+    } else {
+        false
     }
 }
 
 pub fn fle64(a: u64, b: u64) -> bool
     ensures { λ r. ⌜ r ≡ Ieee.le (ofBits binary64 a) (ofBits binary64 b) ⌝ }
 {
-    if unordered64(a, b) {
-        false
-    } else {
+    if ordered64(a, b) {
         f64::from_bits(a) <= f64::from_bits(b)
+    } else {
+        false
     }
 }
 

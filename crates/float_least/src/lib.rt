@@ -1,76 +1,76 @@
-// The least and the greatest of two float lanes by their patterns (the standard, 4.3.3 "Floating-Point Operations"; document 02, order 4).
+// The least and the greatest of two float lanes by their patterns (the standard, 4.3.3 "Floating-Point Operations"; document 02, order 4). One comparison of
+// numbers decides. Where neither is below the other they are equal, and differ in their signs at most: then the signs decide, −0 below +0.
 ghost use mathlib.Core.Path.{_≡_};
-ghost use mathlib.Core.Bool.{_||_};
-ghost use lib.Ieee.{binary32, binary64, nanBits};
-ghost use Rattle.standard.specs.Float.{under, fmin, fmax};
+ghost use mathlib.Core.Bool.{cond};
+ghost use lib.Dec.{leb};
+ghost use lib.Ieee.{binary32, binary64, top};
+ghost use Rattle.standard.specs.Float.{fmin, fmax};
+use float_lane::ordered32;
+use float_lane::ordered64;
 use float_value::*;
 
-fn either_nan32(a: u32, b: u32) -> bool
-    ensures { λ r. ⌜ r ≡ (nanBits binary32 a || nanBits binary32 b) ⌝ }
+// The sign alone.
+fn sign32(b: u32) -> u32
+    ensures { λ r. ⌜ r ≡ cond (leb (top binary32) b) (top binary32) 0 ⌝ }
 {
-    is_nan32(a) | is_nan32(b)
-}
-
-// Whether a is below b, −0 counted below +0.
-fn under32(a: u32, b: u32) -> bool
-    ensures { λ r. ⌜ r ≡ under binary32 a b ⌝ }
-{
-    let x = value32(a);
-    let y = value32(b);
-    (x < y) | ((x == y) & (0x8000_0000 <= a))
+    if 0x8000_0000 <= b { 0x8000_0000 } else { 0 }
 }
 
 pub fn fmin32(a: u32, b: u32) -> u32
     ensures { λ r. ⌜ r ≡ fmin binary32 a b ⌝ }
 {
-    if either_nan32(a, b) {
-        NAN32
+    if ordered32(a, b) {
+        pick32(f32::from_bits(b) < f32::from_bits(a), b, a | sign32(b))
     } else {
-        pick32(under32(a, b), a, b)
+        NAN32
     }
 }
 
 pub fn fmax32(a: u32, b: u32) -> u32
     ensures { λ r. ⌜ r ≡ fmax binary32 a b ⌝ }
 {
-    if either_nan32(a, b) {
-        NAN32
+    if ordered32(a, b) {
+        pick32(
+            f32::from_bits(a) < f32::from_bits(b),
+            b,
+            a & (b | 0x7FFF_FFFF),
+        )
     } else {
-        pick32(under32(a, b), b, a)
+        NAN32
     }
 }
 
-fn either_nan64(a: u64, b: u64) -> bool
-    ensures { λ r. ⌜ r ≡ (nanBits binary64 a || nanBits binary64 b) ⌝ }
+// The sign alone.
+fn sign64(b: u64) -> u64
+    ensures { λ r. ⌜ r ≡ cond (leb (top binary64) b) (top binary64) 0 ⌝ }
 {
-    is_nan64(a) | is_nan64(b)
-}
-
-// Whether a is below b, −0 counted below +0.
-fn under64(a: u64, b: u64) -> bool
-    ensures { λ r. ⌜ r ≡ under binary64 a b ⌝ }
-{
-    let x = value64(a);
-    let y = value64(b);
-    (x < y) | ((x == y) & (0x8000_0000_0000_0000 <= a))
+    if 0x8000_0000_0000_0000 <= b {
+        0x8000_0000_0000_0000
+    } else {
+        0
+    }
 }
 
 pub fn fmin64(a: u64, b: u64) -> u64
     ensures { λ r. ⌜ r ≡ fmin binary64 a b ⌝ }
 {
-    if either_nan64(a, b) {
-        NAN64
+    if ordered64(a, b) {
+        pick64(f64::from_bits(b) < f64::from_bits(a), b, a | sign64(b))
     } else {
-        pick64(under64(a, b), a, b)
+        NAN64
     }
 }
 
 pub fn fmax64(a: u64, b: u64) -> u64
     ensures { λ r. ⌜ r ≡ fmax binary64 a b ⌝ }
 {
-    if either_nan64(a, b) {
-        NAN64
+    if ordered64(a, b) {
+        pick64(
+            f64::from_bits(a) < f64::from_bits(b),
+            b,
+            a & (b | 0x7FFF_FFFF_FFFF_FFFF),
+        )
     } else {
-        pick64(under64(a, b), b, a)
+        NAN64
     }
 }

@@ -3,7 +3,7 @@
 use mathlib.Core.Path.{_≡_, refl, sym, ap, ap₂, _∙_, subst}
 use mathlib.Core.Bool.{Bool, true, false, not, cond}
 use Prim.Native.Nat.{ℕ, suc, _+_, _-_, _*_, _%_, _^_, _≤_, _<_, min}
-use native.Mathlib.Nat.{le-trans, le-of-eq, lt-of-lt-of-le, lt-of-le-of-lt, zero-lt-suc, zero-mul, add-zero, mod-eq-of-lt, mul-one, mul-assoc, mul-le-mul-right, add-comm, zero-add, mul-right-comm}
+use native.Mathlib.Nat.{le-trans, le-of-eq, lt-of-lt-of-le, zero-lt-suc, zero-mul, add-zero, mod-eq-of-lt, mul-one, mul-assoc, mul-le-mul-right, add-comm, zero-add, mul-right-comm}
 use native.Mathlib.Omega.{arith}
 use lib.Dec.{T, ltb, leb, lt→ltb, leb→le, nleb→lt, lit≤}
 use lib.Arith.{le→nltb}
@@ -70,7 +70,7 @@ module _ (n : ℕ) (N : 0 < n) (F : n < 2 ^ 32) where
       go : (z j : ℕ) → z + suc j ≡ 32 → suc j + (z + i) ≡ 32 + i
       go z j e = omega arith
 
-  moved-ge : (i : ℕ) → 2 ^ (31 + i) ≤ n * 2 ^ (z + i)
+  pub moved-ge : (i : ℕ) → 2 ^ (31 + i) ≤ n * 2 ^ (z + i)
   moved-ge i = le-trans (le-of-eq (ap (λ (x : ℕ). 2 ^ x) (go z (t .0) (t .1)) ∙ pow-add 2 (t .0) (z + i))) (mul-le-mul-right (2 ^ (z + i)) (t .2))
     where
       go : (z j : ℕ) → z + suc j ≡ 32 → 31 + i ≡ j + (z + i)
@@ -85,15 +85,6 @@ module _ (n : ℕ) (N : 0 < n) (F : n < 2 ^ 32) where
     where
       go : (z : ℕ) → (157 - z) * 8388608 % 4294967296 ≡ (157 - z) * 8388608
       go z = omega arith
-
-  pub kept-small : closest (n * 2 ^ z % 2 ^ 32) (2 ^ 8) ≤ 2 ^ 24
-  kept-small = le-trans (le-of-eq (ap (λ (x : ℕ). closest x (2 ^ 8)) shifted)) (kept-le binary32 32 (z + 0) n (moved-lt 0) (moved-ge 0) (lit≤ tt))
-
-  pub narrow-fits : {c : ℕ} → c ≤ 2 ^ 24 → (157 - z) * 2 ^ 23 % 2 ^ 32 + c < 2 ^ 32
-  narrow-fits {c} h = go z c h
-    where
-      go : (z c : ℕ) → c ≤ 16777216 → (157 - z) * 8388608 % 4294967296 + c < 4294967296
-      go z c h = omega arith
 
   pub narrow : (157 - z) * 2 ^ 23 % 2 ^ 32 + closest (n * 2 ^ z % 2 ^ 32) (2 ^ 8) ≡ convert-u binary32 n
   unfolding ofInt
@@ -121,12 +112,6 @@ module _ (n : ℕ) (N : 0 < n) (F : n < 2 ^ 32) where
 
   shifted64 : n * 2 ^ (z + 21) % 2 ^ 64 ≡ n * 2 ^ (z + 21)
   shifted64 = mod-eq-of-lt (lt-of-lt-of-le (moved-lt 21) (lit≤ tt))
-
-  pub wide-fits : (l : ℕ) → (1053 - l - z) * 2 ^ 52 % 2 ^ 64 + n * 2 ^ (z + 21) % 2 ^ 64 < 2 ^ 64
-  wide-fits l = go z l (n * 2 ^ (z + 21) % 2 ^ 64) (lt-of-le-of-lt (le-of-eq shifted64) (moved-lt 21))
-    where
-      go : (z l c : ℕ) → c < 9007199254740992 → (1053 - l - z) * 4503599627370496 % 18446744073709551616 + c < 18446744073709551616
-      go z l c h = omega arith
 
   pub wide : (l : ℕ) → l < 150 → (1053 - l - z) * 2 ^ 52 % 2 ^ 64 + n * 2 ^ (z + 21) % 2 ^ 64 ≡ toBits binary64 (round binary64 false n (2 ^ l))
   wide l L =

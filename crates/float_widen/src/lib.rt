@@ -8,7 +8,8 @@ ghost use Rattle.standard.specs.Convert.{promote, convert-u, convert-s};
 use float_parts::*;
 use float_value::*;
 
-// n / 2^l, which an f64 holds exactly.
+// n / 2^l, which an f64 holds exactly. The number is turned right until its leading digit stands at the end and the digits after it at the top; the exponent's
+// field is added, to which the leading digit adds one; and all is turned left by 52 places.
 fn quotient(n: u32, l: u64) -> u64
     requires { ⌜ l < 150 ⌝ }
     ensures { λ r. ⌜ r ≡ toBits binary64 (round binary64 false n (2 ^ l)) ⌝ }
@@ -16,26 +17,29 @@ fn quotient(n: u32, l: u64) -> u64
     if n == 0 {
         return 0;
     }
-    let z = u32::leading_zeros(n) as u64;
-    ((1053 - l - z) << 52) + ((n as u64) << (z + 21))
+    let k = (31 - u32::leading_zeros(n)) as u64;
+    let x = n as u64;
+    let w = ((x >> k) | (x << ((64 - k) % 64))) + (1022 - l + k);
+    (w >> 12) | (w << 52)
 }
 
+// A number whose field is neither 0 nor 255 first: one more than the field is then neither 1 nor 256.
 pub fn promote(bits: u32) -> u64
     ensures { λ r. ⌜ r ≡ promote bits ⌝ }
 {
     let size = bits % 0x8000_0000;
+    let sign = ((bits - size) as u64) * 0x1_0000_0000;
+    if 1 < (bits / 0x80_0000 + 1) % 256 {
+        return sign + ((size as u64) * 0x2000_0000 + 0x3800_0000_0000_0000);
+    }
     if 0x7F80_0000 < size {
         return NAN64;
     }
-    let sign = pick64(0x8000_0000 <= bits, 0x8000_0000_0000_0000, 0);
-    let field = size / 0x80_0000;
-    if field == 0 {
-        return sign + quotient(bits % 0x80_0000, 149);
+    if size < 0x7F80_0000 {
+        sign + quotient(size, 149)
+    } else {
+        sign + 0x7FF0_0000_0000_0000
     }
-    if 254 < field {
-        return sign + 0x7FF0_0000_0000_0000;
-    }
-    sign + ((size as u64) * 0x2000_0000 + 0x3800_0000_0000_0000)
 }
 
 pub fn convert_u64(n: u32) -> u64

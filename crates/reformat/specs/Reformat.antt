@@ -1,17 +1,14 @@
 -- What the numbers of src/lib.rt stand for. A method of the vector names its number, so its promise is the standard's operation itself: no reader has to
 -- believe these tables.
 use Prim.Native.Nat.{ℕ}
-use mathlib.Core.List.{List, [], _∷_, _++_}
+use mathlib.Core.List.{List, [], _∷_}
 use lib.ListN.{getD}
 use lib.Ieee.{Format, binary32, binary64}
 use Rattle.standard.specs.Convert.{fceil, ffloor, ftrunc, fnearest, demote, promote, convert-u, convert-s, trunc-sat-u, trunc-sat-s}
 
--- Lanes of one width: what both formats have, and what 32 bits have besides.
+-- Lanes of one width.
 abbrev pub roundings : Format → List (ℕ → ℕ)
 roundings f = fceil f ∷ ffloor f ∷ ftrunc f ∷ fnearest f ∷ []
-
-abbrev pub formats32 : List (ℕ → ℕ)
-formats32 = roundings binary32 ++ convert-s binary32 ∷ convert-u binary32 ∷ trunc-sat-s binary32 ∷ trunc-sat-u binary32 ∷ []
 
 -- From 32 bits to 64, and from 64 to 32.
 abbrev pub lows : List (ℕ → ℕ)
@@ -22,7 +19,7 @@ zeros = trunc-sat-s binary64 ∷ trunc-sat-u binary64 ∷ demote ∷ []
 
 -- The operation of a number; 0 for any other number.
 abbrev pub format32-of : ℕ → ℕ → ℕ
-format32-of op = getD formats32 op (λ a. 0)
+format32-of op = getD (roundings binary32) op (λ a. 0)
 
 abbrev pub format64-of : ℕ → ℕ → ℕ
 format64-of op = getD (roundings binary64) op (λ a. 0)

@@ -1,5 +1,5 @@
-// Lanes in another format, over arrays of lanes: conversions, casts and roundings to whole numbers, each told by a constant number. Where a vector of 32-bit
-// lanes becomes one of 64-bit lanes, or the other way round, here stands which lanes are taken and where zeros are put.
+// Lanes in another format, over arrays of lanes: roundings to whole numbers, and conversions and casts between 32 and 64 bits, each told by a constant number.
+// Where a vector of 32-bit lanes becomes one of 64-bit lanes, or the other way round, here stands which lanes are taken and where zeros are put.
 ghost use mathlib.Core.Path.{_≡_};
 ghost use mathlib.Core.List.{_∷_, [], map};
 ghost use Rattle.standard.specs.Lanes.{joined, lowHalf};
@@ -16,14 +16,6 @@ pub const FLOOR: u8 = 1;
 pub const TRUNC: u8 = 2;
 
 pub const NEAREST: u8 = 3;
-
-pub const CONVERT_S: u8 = 4;
-
-pub const CONVERT_U: u8 = 5;
-
-pub const TRUNC_SAT_S: u8 = 6;
-
-pub const TRUNC_SAT_U: u8 = 7;
 
 pub const CONVERT_LOW_S: u8 = 0;
 
@@ -45,10 +37,6 @@ fn lane32(op: u8, x: u32) -> u32
         FLOOR => ffloor32(x),
         TRUNC => ftrunc32(x),
         NEAREST => fnearest32(x),
-        CONVERT_S => convert_s32(x),
-        CONVERT_U => convert_u32(x),
-        TRUNC_SAT_S => trunc_sat_s32(x),
-        TRUNC_SAT_U => trunc_sat_u32(x),
         _ => 0,
     }
 }
@@ -99,11 +87,12 @@ pub fn each32(op: u8, a: [u32; 4]) -> [u32; 4]
     ]
 }
 
-// The low lanes.
+// The low lanes; the higher of the two first, which is a shift of its half and so is tested by the way.
 pub fn low(op: u8, a: [u32; 4]) -> [u64; 2]
     ensures { λ r. ⌜ r ≡ map (low-of op) (lowHalf a) ⌝ }
 {
-    [wider(op, a[0]), wider(op, a[1])]
+    let high = wider(op, a[1]);
+    [wider(op, a[0]), high]
 }
 
 // The half of these lanes, lowest first.

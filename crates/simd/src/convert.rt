@@ -91,25 +91,25 @@ impl V128 {
     pub fn f32x4_convert_i32x4_s(self) -> V128
         ensures { λ r. ⌜ number r ≡ unary 32 (convert-s binary32) (number self) ⌝ }
     {
-        self.format32(CONVERT_S)
+        V128::join32(float_narrow::convert_s32x4(self.lanes32()))
     }
 
     pub fn f32x4_convert_i32x4_u(self) -> V128
         ensures { λ r. ⌜ number r ≡ unary 32 (convert-u binary32) (number self) ⌝ }
     {
-        self.format32(CONVERT_U)
+        V128::join32(float_narrow::convert_u32x4(self.lanes32()))
     }
 
     pub fn i32x4_trunc_sat_f32x4_s(self) -> V128
         ensures { λ r. ⌜ number r ≡ unary 32 (trunc-sat-s binary32) (number self) ⌝ }
     {
-        self.format32(TRUNC_SAT_S)
+        V128::join32(float_saturate::trunc_sat_s32x4(self.lanes32()))
     }
 
     pub fn i32x4_trunc_sat_f32x4_u(self) -> V128
         ensures { λ r. ⌜ number r ≡ unary 32 (trunc-sat-u binary32) (number self) ⌝ }
     {
-        self.format32(TRUNC_SAT_U)
+        V128::join32(float_saturate::trunc_sat_u32x4(self.lanes32()))
     }
 
     pub fn f64x2_convert_low_i32x4_s(self) -> V128

@@ -515,9 +515,7 @@ impl V128 {
     fn arithmetic64(self, rhs: V128, op: u8) -> V128
         ensures { λ r. ⌜ number r ≡ binary 64 (arithmetic-of binary64 op) (number self) (number rhs) ⌝ }
     {
-        V128 {
-            lo: float_arithmetic::choose::arithmetic64(op, self.lo, rhs.lo),
-            hi: float_arithmetic::choose::arithmetic64(op, self.hi, rhs.hi),
-        }
+        let r = float_arithmetic::choose::pairs64(op, self.lo, self.hi, rhs.lo, rhs.hi);
+        V128 { lo: r[0], hi: r[1] }
     }
 }

@@ -1,25 +1,25 @@
 -- `float_lane::feq32` meets its contract. With a NaN it is false, and two numbers are compared by the language. Assumes nothing.
 use borrow.Author.Needs.{needs}
-use lib.Ieee
+use mathlib.Core.Path.{sym, _∙_}
 use lib.Ieee.{binary32}
-use Rattle.float_lane.proofs.FloatOrder.{ordered, with-nan, eq-unordered}
+use Rattle.float_lane.proofs.Together.{apart, unequal}
 use Rattle.float_lane.proofs.feq32.Statement.{statement}
 use Rattle.float_lane.proofs.feq32.Tie as tie
 
-unordered32-requires : tie.Need-unordered32-requires
-unordered32-requires c κs = search needs
+is-nan32-requires : tie.Need-is-nan32-requires
+is-nan32-requires c κs = search needs
 
 float-from-bits-result : tie.Need-float-from-bits-result
-float-from-bits-result c = ordered binary32 (c .before .before .args .a) (c .before .before .args .b) (c .before .unordered32 .ensures) (c .if1 .left) .0
+float-from-bits-result c = apart binary32 (c .before .before .args .a) (c .before .before .args .b) (sym (c .before .is-nan32 .ensures) ∙ c .if1 .left) .0
 
 float-from-bits-result-2 : tie.Need-float-from-bits-result-2
-float-from-bits-result-2 c = ordered binary32 (c .before .before .args .a) (c .before .before .args .b) (c .before .unordered32 .ensures) (c .if1 .left) .1
+float-from-bits-result-2 c = apart binary32 (c .before .before .args .a) (c .before .before .args .b) (sym (c .before .is-nan32 .ensures) ∙ c .if1 .left) .1
 
 returns : tie.Need-returns
-returns c = with-nan binary32 (c .before .before .args .a) (c .before .before .args .b) (c .before .unordered32 .ensures) Ieee.eq eq-unordered (c .if1 .taken)
+returns c = unequal binary32 (c .before .before .args .a) (c .before .before .args .b) (c .before .before .fits .a .fits) (c .before .before .fits .b .fits) (sym (c .before .is-nan32 .ensures) ∙ c .if1 .taken)
 
 returns-2 : tie.Need-returns-2
 returns-2 c = search needs
 
 pub feq32-spec : {M : Type 1} → statement M
-feq32-spec = tie.close (tie.spec unordered32-requires float-from-bits-result float-from-bits-result-2 returns returns-2)
+feq32-spec = tie.close (tie.spec is-nan32-requires float-from-bits-result float-from-bits-result-2 returns returns-2)

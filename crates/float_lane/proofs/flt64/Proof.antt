@@ -6,20 +6,20 @@ use Rattle.float_lane.proofs.FloatOrder.{ordered, with-nan, lt-unordere
 use Rattle.float_lane.proofs.flt64.Statement.{statement}
 use Rattle.float_lane.proofs.flt64.Tie as tie
 
-unordered64-requires : tie.Need-unordered64-requires
-unordered64-requires c κs = search needs
+ordered64-requires : tie.Need-ordered64-requires
+ordered64-requires c κs = search needs
 
 float-from-bits-result : tie.Need-float-from-bits-result
-float-from-bits-result c = ordered binary64 (c .before .before .args .a) (c .before .before .args .b) (c .before .unordered64 .ensures) (c .if1 .left) .0
+float-from-bits-result c = ordered binary64 (c .before .before .args .a) (c .before .before .args .b) (c .before .ordered64 .ensures) (c .if1 .taken) .0
 
 float-from-bits-result-2 : tie.Need-float-from-bits-result-2
-float-from-bits-result-2 c = ordered binary64 (c .before .before .args .a) (c .before .before .args .b) (c .before .unordered64 .ensures) (c .if1 .left) .1
+float-from-bits-result-2 c = ordered binary64 (c .before .before .args .a) (c .before .before .args .b) (c .before .ordered64 .ensures) (c .if1 .taken) .1
 
 returns : tie.Need-returns
-returns c = with-nan binary64 (c .before .before .args .a) (c .before .before .args .b) (c .before .unordered64 .ensures) Ieee.lt lt-unordered (c .if1 .taken)
+returns c = search needs
 
 returns-2 : tie.Need-returns-2
-returns-2 c = search needs
+returns-2 c = with-nan binary64 (c .before .before .args .a) (c .before .before .args .b) (c .before .ordered64 .ensures) Ieee.lt lt-unordered (c .if1 .left)
 
 pub flt64-spec : {M : Type 1} → statement M
-flt64-spec = tie.close (tie.spec unordered64-requires float-from-bits-result float-from-bits-result-2 returns returns-2)
+flt64-spec = tie.close (tie.spec ordered64-requires float-from-bits-result float-from-bits-result-2 returns returns-2)

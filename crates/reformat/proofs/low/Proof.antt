@@ -1,9 +1,9 @@
 -- `reformat::low` meets its contract: the first two of four lanes. Assumes nothing.
-use borrow.Author.Needs.{needs}
 use mathlib.Core.Path.{ap}
 use mathlib.Core.List.{map}
 use Rattle.standard.specs.Lanes.{lowHalf}
 use Rattle.standard.proofs.Halves.{all-elements}
+use borrow.Author.Needs.{needs}
 use Rattle.reformat.proofs.low.Statement.{statement}
 use Rattle.reformat.proofs.low.Tie as tie
 
@@ -23,4 +23,6 @@ returns : tie.Need-returns
 returns c = rw (c .before .wider .ensures, c .wider2 .ensures) (ap (map _) (ap lowHalf (all-elements (c .before .before .args .t2) 4 (search needs))))
 
 pub low-spec : {M : Type 1} → statement M
-low-spec = tie.close (tie.spec array-read-wider wider-requires array-read-wider-2 wider-requires-2 returns)
+low-spec =
+    tie.close
+    (tie.spec array-read-wider wider-requires array-read-wider-2 wider-requires-2 returns)
