@@ -203,11 +203,9 @@ pub told-met : (N code : ℕ) → code < 16777216 → lines (told N code) ≡ li
 unfolding lines
 told-met N code h = rw (lt-ltb code 16777216 h) (append-nil (line (met N (code % 65536) (code / 65536))))
 
-pub told-one : (N d e : ℕ) → d < 10 → e < 10 → told N (d + 65536 * e) ≡ met N d e ∷ []
-told-one N d e hd he =
-    let low : (d + 65536 * e) % 65536 ≡ d = omega arith in
-    let high : (d + 65536 * e) / 65536 ≡ e = omega arith in
-    rw (lt-ltb (d + 65536 * e) 16777216 (omega arith), low, high)
+pub one-line : (m : Meeting) → lines (m ∷ []) ≡ line m
+unfolding lines
+one-line m = append-nil (line m)
 
 pub told-far : (N code : ℕ) → 16777216 ≤ code → lines (told N code) ≡ []
 unfolding lines

@@ -289,7 +289,8 @@ fn one(block: &mut [u8], text: &mut [u8], held: usize, number: u64, first: u32, 
     ensures { λ r. ⌜ r .held ≤ held + 44 ⌝ }
 {
     let pen = begin(text, held, number);
-    put_position(block, text, pen, first + 65536 * second, number)
+    let held = put_line(block, pen, text, first + 65536 * second);
+    begin(text, held, number + 1)
 }
 
 // How far lines were put, and how many bytes they have.
