@@ -9,11 +9,7 @@ use arguments::Numeral;
 use libc::STDERR_FILENO;
 use libc::STDIN_FILENO;
 use libc::STDOUT_FILENO;
-use scanning::Next;
 use scanning::Scan;
-use std::num::wrapping_add_u8;
-use std::num::wrapping_sub_u8;
-use std::num::wrapping_sub_u64;
 
 // How many bytes a capture may have.
 const CAPTURE: u64 = 1152921504606846976;
@@ -43,121 +39,11 @@ const ENDED: u8 = 1;
 
 const FAILED: u8 = 2;
 
-const SEARCHED: u8 = 3;
-
-// How far the scan has come: how much text waits to be written, the last position in it and how many digits that has, and whether more is to be read. Nothing
-// was met where there are no digits.
+// How far the scan has come, whether anything was met, and whether more is to be read.
 struct Course {
     scan: Scan,
-    held: usize,
-    position: u64,
-    digits: usize,
+    met: bool,
     state: u8,
-}
-
-// Puts bytes behind others. A line always has room, and what has none is left out.
-fn put(out: &mut [u8], at: usize, bytes: &[u8]) -> usize {
-    let n = bytes.len();
-    if out.len() < at {
-        return at;
-    }
-    if out.len() - at < n {
-        return at;
-    }
-    let mut i = 0;
-    while i < n {
-        out[at + i] = bytes[i];
-        i += 1;
-    }
-    at + n
-}
-
-// A distance is at most 8.
-fn digit(distance: u32) -> u8 {
-    if distance > 9 {
-        return b'?';
-    }
-    48 + distance as u8
-}
-
-// All twenty places, of which the first count.
-fn put_digits(out: &mut [u8], at: usize, text: &[u8; 20], digits: usize) -> usize {
-    if out.len() < at {
-        return at;
-    }
-    if out.len() - at < 20 {
-        return at;
-    }
-    if digits > 20 {
-        return at;
-    }
-    for i in 0..20 {
-        out[at + i] = text[i];
-    }
-    at + digits
-}
-
-// Adds less than ten to a number of so many digits; false where it has too few.
-fn add(text: &mut [u8; 20], digits: usize, number: u8) -> bool {
-    if digits > 20 {
-        return false;
-    }
-    let mut more = number;
-    let mut i = digits;
-    while i > 0 {
-        i -= 1;
-        let sum = wrapping_add_u8(text[i], more);
-        if sum <= b'9' {
-            text[i] = sum;
-            return true;
-        }
-        text[i] = wrapping_sub_u8(sum, 10);
-        more = 1;
-    }
-    false
-}
-
-// The digits of a position, from those of the last: positions often follow each other.
-fn spell(text: &mut [u8; 20], digits: usize, last: u64, position: u64) -> usize {
-    let further = wrapping_sub_u64(position, last);
-    if further < 10 {
-        if add(text, digits, further as u8) {
-            return digits;
-        }
-    }
-    io::decimal(position, text)
-}
-
-fn line(
-    out: &mut [u8],
-    at: usize,
-    text: &[u8; 20],
-    digits: usize,
-    first: u32,
-    second: u32,
-) -> usize {
-    let mut distances = [
-        b' ',
-        b'd',
-        b'i',
-        b's',
-        b't',
-        b'a',
-        b'n',
-        b'c',
-        b'e',
-        b's',
-        b' ',
-        b'0',
-        b' ',
-        b'0',
-        b'\n',
-    ];
-    distances[11] = digit(first);
-    distances[13] = digit(second);
-    let at = put(out, at, b"position ");
-    let at = put_digits(out, at, text, digits);
-    put(out, at, &distances)
 }
 
 fn flushed(out: &[u8], held: usize) -> bool {
@@ -283,143 +169,50 @@ fn read_arguments() -> Asked {
     read_segment(marker, tolerance, length)
 }
 
-// The position in the capture of one in the segment.
-fn in_capture(position: u64, from: u64) -> u64 {
-    if position >= 8 * CAPTURE {
-        return position;
-    }
-    if from > CAPTURE {
-        return position;
-    }
-    8 * from + position
-}
-
-// The same with another state of the scan.
-fn with(course: Course, scan: Scan) -> Course {
-    Course {
-        scan,
-        held: course.held,
-        position: course.position,
-        digits: course.digits,
-        state: course.state,
-    }
-}
-
 // The same at another state.
 fn at_state(course: Course, state: u8) -> Course {
     let scan = course.scan;
     Course {
         scan,
-        held: course.held,
-        position: course.position,
-        digits: course.digits,
+        met: course.met,
         state,
     }
 }
 
-// The same with nothing that waits to be written.
-fn written(course: Course) -> Course {
-    let scan = course.scan;
-    Course {
-        scan,
-        held: 0,
-        position: course.position,
-        digits: course.digits,
-        state: course.state,
-    }
-}
-
-// Puts a line behind the others, which are written first where there is no room for it.
-fn put_line(
-    out: &mut [u8],
-    text: &mut [u8; 20],
-    course: Course,
-    position: u64,
-    first: u32,
-    second: u32,
-) -> Course {
-    let scan = course.scan;
-    let mut held = course.held;
-    let mut state = course.state;
-    if held > 65472 {
-        if !flushed(out, held) {
-            state = FAILED;
-        }
-        held = 0;
-    }
-    let digits = spell(text, course.digits, course.position, position);
-    held = line(out, held, text, digits, first, second);
-    Course {
-        scan,
-        held,
-        position,
-        digits,
-        state,
-    }
-}
-
-// Puts the line of a meeting that is of the segment.
-fn put_own(
-    out: &mut [u8],
-    text: &mut [u8; 20],
-    course: Course,
-    task: Task,
-    position: u64,
-    first: u32,
-    second: u32,
-) -> Course {
-    if position / 8 >= task.count {
-        return course;
-    }
-    let place = in_capture(position, task.from);
-    put_line(out, text, course, place, first, second)
-}
-
-// The next meeting in what has come, and its line; or that there is none.
-fn put_next<'a>(
-    window: &'a [u8],
-    table: &'a [u64; 1280],
-    out: &mut [u8],
-    text: &mut [u8; 20],
-    course: Course,
-    task: Task,
-) -> Course {
-    let scan = course.scan;
-    match scanning::seek(
-        window,
-        scan,
-        table,
-        task.marker,
-        task.tolerance,
-        task.length,
-    ) {
-        Next::Met(position, first, second, next) => put_own(
-            out,
-            text,
-            with(course, next),
-            task,
-            position,
-            first,
-            second,
-        ),
-        Next::More(next) => at_state(with(course, next), SEARCHED),
-    }
-}
-
-// Puts a line for each meeting in what has come that is of the segment. A window of so many bits has fewer meetings than bits.
+// Writes the lines of what is met in what has come, a block at a time. A window of so many bits has fewer meetings than bits.
 fn put_meetings<'a>(
     window: &'a [u8],
     table: &'a [u64; 1280],
     out: &mut [u8],
-    text: &mut [u8; 20],
     course: Course,
     task: Task,
 ) -> Course {
-    let mut course = at_state(course, GOES_ON);
+    let mut course = course;
     let mut turns = 1114112usize;
     while turns > 0 {
-        course = put_next(window, table, out, text, course, task);
-        if course.state != GOES_ON {
+        let scan = course.scan;
+        let put = program_scan::put_lines(
+            out,
+            window,
+            scan,
+            table,
+            task.marker,
+            task.tolerance,
+            task.length,
+            task.from,
+            task.count,
+        );
+        let held = put.held;
+        let next = put.scan;
+        if !flushed(out, held) {
+            return at_state(course, FAILED);
+        }
+        course = Course {
+            scan: next,
+            met: course.met | (held > 0),
+            state: GOES_ON,
+        };
+        if put.done {
             return course;
         }
         turns -= 1;
@@ -451,7 +244,6 @@ fn take<'a>(
     piece: &'a [u8],
     table: &'a [u64; 1280],
     out: &mut [u8],
-    text: &mut [u8; 20],
     course: Course,
     task: Task,
 ) -> Step
@@ -461,7 +253,12 @@ fn take<'a>(
     let fed = scanning::feed(window, scan, piece);
     let used = fed.used;
     let next = fed.scan;
-    let course = put_meetings(window, table, out, text, with(course, next), task);
+    let course = Course {
+        scan: next,
+        met: course.met,
+        state: GOES_ON,
+    };
+    let course = put_meetings(window, table, out, course, task);
     if course.state == FAILED {
         return Step { bytes: 0, course };
     }
@@ -477,14 +274,13 @@ fn hand_on<'a>(
     piece: &'a [u8],
     table: &'a [u64; 1280],
     out: &mut [u8],
-    text: &mut [u8; 20],
     course: Course,
     task: Task,
 ) -> Course {
     let mut course = course;
     let mut at = 0;
     while at < piece.len() {
-        let step = take(window, &piece[at..], table, out, text, course, task);
+        let step = take(window, &piece[at..], table, out, course, task);
         let bytes = step.bytes;
         let next = step.course;
         if bytes == 0 {
@@ -519,23 +315,18 @@ fn deciding(task: Task) -> usize {
     smaller(count + tail, rest(task.from)) as usize
 }
 
-// Writes what was found, since a read may wait, and hands on what the next read brings.
+// Hands on what the next read brings. What was found is written by then, since a read may wait.
 fn turn<'a>(
     window: &mut [u8],
     piece: &mut [u8],
     table: &'a [u64; 1280],
     out: &mut [u8],
-    text: &mut [u8; 20],
     course: Course,
     task: Task,
     left: usize,
 ) -> Step
     ensures { λ r. ⌜ r .bytes ≤ left ⌝ }
 {
-    if !flushed(out, course.held) {
-        return stopped(course, FAILED);
-    }
-    let course = written(course);
     let reading = read_once(piece, left);
     let n = reading.bytes;
     if reading.failed {
@@ -544,7 +335,7 @@ fn turn<'a>(
     if n == 0 {
         return stopped(course, ENDED);
     }
-    let course = hand_on(window, &piece[..n], table, out, text, course, task);
+    let course = hand_on(window, &piece[..n], table, out, course, task);
     if course.state == FAILED {
         return Step { bytes: 0, course };
     }
@@ -557,13 +348,12 @@ fn run<'a>(
     piece: &mut [u8],
     table: &'a [u64; 1280],
     out: &mut [u8],
-    text: &mut [u8; 20],
     task: Task,
 ) -> Course {
     let mut course = begun();
     let mut left = deciding(task);
     while left > 0 {
-        let step = turn(window, piece, table, out, text, course, task, left);
+        let step = turn(window, piece, table, out, course, task, left);
         let bytes = step.bytes;
         let next = step.course;
         course = next;
@@ -581,7 +371,7 @@ fn last(course: Course, task: Task) -> u8 {
     let before = scan.before;
     let filled = scan.filled as u64;
     let from = task.from;
-    let n = scanning::end(scan, task.tolerance, task.length, course.digits > 0);
+    let n = scanning::end(scan, task.tolerance, task.length, course.met);
     if n != 10 {
         return n;
     }
@@ -601,21 +391,17 @@ fn last(course: Course, task: Task) -> u8 {
     }
 }
 
-fn finish(out: &[u8], course: Course, task: Task) {
+fn finish(course: Course, task: Task) {
     if course.state == FAILED {
         return;
     }
-    if flushed(out, course.held) {
-        report(last(course, task));
-    }
+    report(last(course, task));
 }
 
 fn begun() -> Course {
     Course {
         scan: scanning::start(),
-        held: 0,
-        position: 0,
-        digits: 0,
+        met: false,
         state: GOES_ON,
     }
 }
@@ -637,7 +423,6 @@ fn main() {
     let mut window = [0u8; 139264];
     let mut piece = [0u8; 65536];
     let mut out = [0u8; 65536];
-    let mut text = [0u8; 20];
-    let course = run(&mut window, &mut piece, &table, &mut out, &mut text, task);
-    finish(&out, course, task);
+    let course = run(&mut window, &mut piece, &table, &mut out, task);
+    finish(course, task);
 }

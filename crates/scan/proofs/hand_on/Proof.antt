@@ -7,10 +7,10 @@ use Rattle.scan.proofs.hand_on.Statement.{statement}
 use Rattle.scan.proofs.hand_on.Tie as tie
 
 abbrev Inv-loop : tie.InvT-loop
-Inv-loop window₀ piece table out₀ text₀ task course₀ at₀ window out text course at = (at ≤ length piece) × (length window ≡ length window₀) × (length out ≡ length out₀)
+Inv-loop window₀ piece table out₀ task course₀ at₀ window out course at = (at ≤ length piece) × (length window ≡ length window₀) × (length out ≡ length out₀)
 
 abbrev μ-loop : tie.MeasureT-loop
-μ-loop window₀ piece table out₀ text₀ task course₀ at₀ window out text course at = length piece - at
+μ-loop window₀ piece table out₀ task course₀ at₀ window out course at = length piece - at
 
 loop-holds : tie.Need-loop-holds Inv-loop μ-loop
 loop-holds c = search needs

@@ -1,5 +1,4 @@
 -- `scan::put_meetings` is safe and ends. Assumes nothing.
-use Prim.Native.Nat.{_+_, _-_, _<_, _≤_}
 use mathlib.Core.Path.{_≡_}
 use lib.ListN.{length}
 use borrow.Author.Needs.{needs}
@@ -7,25 +6,34 @@ use Rattle.scan.proofs.put_meetings.Statement.{statement}
 use Rattle.scan.proofs.put_meetings.Tie as tie
 
 abbrev Inv-loop : tie.InvT-loop
-Inv-loop window table out₀ text₀ task course₀ turns₀ out text course turns = length out ≡ length out₀
+Inv-loop window table out₀ task course₀ turns₀ out course turns = length out ≡ length out₀
 
 abbrev μ-loop : tie.MeasureT-loop
-μ-loop window table out₀ text₀ task course₀ turns₀ out text course turns = turns
-
-at-state-requires : tie.Need-at-state-requires Inv-loop μ-loop
-at-state-requires c κs = search needs
+μ-loop window table out₀ task course₀ turns₀ out course turns = turns
 
 loop-holds : tie.Need-loop-holds Inv-loop μ-loop
 loop-holds c = search needs
 
-put-next-requires : tie.Need-put-next-requires Inv-loop μ-loop
-put-next-requires c κs = search needs
+put-lines-requires : tie.Need-put-lines-requires Inv-loop μ-loop
+put-lines-requires c κs = search needs
+
+flushed-requires : tie.Need-flushed-requires Inv-loop μ-loop
+flushed-requires c κs = search needs
+
+at-state-requires : tie.Need-at-state-requires Inv-loop μ-loop
+at-state-requires c κs = search needs
 
 same-length : tie.Need-same-length Inv-loop μ-loop
 same-length c = search needs
 
 returns : tie.Need-returns Inv-loop μ-loop
 returns c = search needs
+
+same-length-2 : tie.Need-same-length-2 Inv-loop μ-loop
+same-length-2 c = search needs
+
+returns-2 : tie.Need-returns-2 Inv-loop μ-loop
+returns-2 c = search needs
 
 sub-turns : tie.Need-sub-turns Inv-loop μ-loop
 sub-turns c = search needs
@@ -36,11 +44,11 @@ loop-less c = search needs
 loop-again : tie.Need-loop-again Inv-loop μ-loop
 loop-again c = search needs
 
-same-length-2 : tie.Need-same-length-2 Inv-loop μ-loop
-same-length-2 c = search needs
+same-length-3 : tie.Need-same-length-3 Inv-loop μ-loop
+same-length-3 c = search needs
 
-returns-2 : tie.Need-returns-2 Inv-loop μ-loop
-returns-2 c = search needs
+returns-3 : tie.Need-returns-3 Inv-loop μ-loop
+returns-3 c = search needs
 
 pub put-meetings-spec : {M : Type 1} → statement M
 put-meetings-spec =
@@ -48,13 +56,16 @@ put-meetings-spec =
     (tie.spec
     Inv-loop
     μ-loop
-    at-state-requires
     loop-holds
-    put-next-requires
+    put-lines-requires
+    flushed-requires
+    at-state-requires
     same-length
     returns
+    same-length-2
+    returns-2
     sub-turns
     loop-less
     loop-again
-    same-length-2
-    returns-2)
+    same-length-3
+    returns-3)

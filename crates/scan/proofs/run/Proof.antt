@@ -7,10 +7,10 @@ use Rattle.scan.proofs.run.Statement.{statement}
 use Rattle.scan.proofs.run.Tie as tie
 
 abbrev Inv-loop : tie.InvT-loop
-Inv-loop window₀ piece₀ table out₀ text₀ task course₀ left₀ window piece out text course left = (length window ≡ length window₀) × (length piece ≡ length piece₀) × (length out ≡ length out₀)
+Inv-loop window₀ piece₀ table out₀ task course₀ left₀ window piece out course left = (length window ≡ length window₀) × (length piece ≡ length piece₀) × (length out ≡ length out₀)
 
 abbrev μ-loop : tie.MeasureT-loop
-μ-loop window₀ piece₀ table out₀ text₀ task course₀ left₀ window piece out text course left = left
+μ-loop window₀ piece₀ table out₀ task course₀ left₀ window piece out course left = left
 
 begun-requires : tie.Need-begun-requires Inv-loop μ-loop
 begun-requires c κs = search needs
