@@ -13,7 +13,7 @@ fn main() {
     }
     // One byte above 65,536 decides, so no more than that is read.
     let mut text = [0u8; 65537];
-    let reading = input::read_to(&mut text);
+    let reading = program_input::read_to(&mut text);
     if reading.failed {
         os::fail(b"assemble: standard input");
         return;

@@ -12,8 +12,8 @@ use lib.Seq.{drop-drop}
 use lib.Dec.{ltb}
 use borrow.Author.Tests.{ltb-true, ltb-false}
 use Rattle.standard.specs.Refusal.{given, refused}
-use Rattle.rules.specs.Definition.{Machine, Ending, ended, paused, stopped, counting, step, steps}
-use Rattle.rules.proofs.Pauses.{twice, none-before}
+use Rattle.calculator_rules.specs.Definition.{Machine, Ending, ended, paused, stopped, counting, step, steps}
+use Rattle.calculator_rules.proofs.Pauses.{twice, none-before}
 use Rattle.calculator.specs.Run.{ends}
 
 -- what is left of a run of n steps at a place, with those done since it was taken up

@@ -2,16 +2,16 @@
 ghost use mathlib.Core.Path.{_≡_};
 ghost use Prim.Native.Nat.{_+_, _-_, _*_, _/_, _<_, _≤_};
 ghost use lib.ListN.{length, drop};
-ghost use Rattle.rules.specs.Definition;
-ghost use Rattle.state.specs.State.{machine, held};
-ghost use Rattle.limits.specs.Outcome.{outcome-of};
+ghost use Rattle.calculator_rules.specs.Definition;
+ghost use Rattle.calculator_state.specs.State.{machine, held};
+ghost use Rattle.calculator_limits.specs.Outcome.{outcome-of};
 ghost use Rattle.calculator.specs.Run.{ends, ending-of};
-pub use limits::Outcome;
-use scalar::Scalar;
-use state::State;
-use state::registers::of_words;
-use state::registers::words;
-use step::step;
+pub use calculator_limits::Outcome;
+use calculator_scalar::Scalar;
+use calculator_state::State;
+use calculator_state::registers::of_words;
+use calculator_state::registers::words;
+use calculator_step::step;
 
 // What a run leaves: the state, the steps done, and how it stopped.
 pub struct Ending {
@@ -43,7 +43,7 @@ fn steps(state: State, list: &[u8], place: usize, limit: usize) -> Ending
     ensures { λ r. ⌜ ending-of r ≡ Definition.steps (length (now (list .entry)) / 32 - place) limit place (drop (32 * place) (now (list .entry))) (machine state) ⌝ }
 {
     let n = list.len() / 32;
-    let end = limits::stop(n, place, limit);
+    let end = calculator_limits::stop(n, place, limit);
     let all = state.registers;
     let mut w = words(all);
     let mut writers = state.writers;
@@ -60,13 +60,19 @@ fn steps(state: State, list: &[u8], place: usize, limit: usize) -> Ending
         }
         at += 1;
     }
-    left(w, writers, scalar, at - place, limits::stopped_at(n, at))
+    left(
+        w,
+        writers,
+        scalar,
+        at - place,
+        calculator_limits::stopped_at(n, at),
+    )
 }
 
 pub fn run(state: State, list: &[u8], place: usize, limit: usize) -> Ending
     ensures { λ r. ⌜ ending-of r ≡ Definition.run (now (list .entry)) place limit (machine state) ⌝ }
 {
-    let refused = limits::judge(list.len(), place, limit);
+    let refused = calculator_limits::judge(list.len(), place, limit);
     if refused == 0 {
         steps(state.taken_up(place), list, place, limit)
     } else {

@@ -4,7 +4,7 @@ ghost use mathlib.Core.Path.{_≡_};
 ghost use mathlib.Core.Bool.{cond};
 ghost use lib.Dec.{ltb};
 ghost use Rattle.chain.specs.Definition.{indices, all-legal, refusal};
-use reorder::all_legal;
+use array_reorder::all_legal;
 
 // "18 more than 16 links, then 5 for an index above 31".
 const LINKS: u8 = 18;

@@ -4,10 +4,10 @@ ghost use mathlib.Core.List.{_++_, map};
 ghost use Prim.Native.Nat.{_%_};
 ghost use lib.ListN.{length, getD};
 ghost use Rattle.chain.specs.Definition.{indices, partner, refusal, counted, folded, left, OneShuffle};
+use array_reorder::beside;
+use array_reorder::picked;
 use chain::indices_of;
 use chain::judge;
-use reorder::beside;
-use reorder::picked;
 
 // The indices of a, of the vector that the chain starts from, and of b.
 const OF_A: [u8; 16] = [0, 1, 2, 3, 4, 5, 6, 7, 8, 9, 10, 11, 12, 13, 14, 15];

@@ -4,10 +4,10 @@
 // records there were, how many vectors were compared with the single operation's, and how many records differ: in the refusal, in a half that is left, or in a
 // vector. A record that is cut short differs.
 ghost use Prim.Native.Nat.{_≤_};
-use access::Effective;
-use access::Fetched64;
 use libc::STDIN_FILENO;
 use libc::STDOUT_FILENO;
+use memory_access::Effective;
+use memory_access::Fetched64;
 use simd::V128;
 
 const RECORD: usize = 1924;
@@ -26,7 +26,7 @@ const XOR: u8 = 1;
 fn half(record: &[u8; 1924], from: u64, i: u64) -> u64
     requires { ⌜ i ≤ 80 ⌝ }
 {
-    match access::fetch64(record, Effective::Sum(from, 8 * i)) {
+    match memory_access::fetch64(record, Effective::Sum(from, 8 * i)) {
         Fetched64::Number(x) => x,
         Fetched64::Past(_) => 0,
     }
@@ -48,9 +48,9 @@ fn at_most_80(n: u8) -> usize
 
 fn over_rows(op: u8, first: &mut [u64], second: &[u64]) -> u8 {
     match op {
-        ADD => half_rows::i8x16_add(first, second),
-        XOR => half_rows::v128_xor(first, second),
-        _ => half_rows::i8x16_popcnt(first),
+        ADD => row_halves::i8x16_add(first, second),
+        XOR => row_halves::v128_xor(first, second),
+        _ => row_halves::i8x16_popcnt(first),
     }
 }
 

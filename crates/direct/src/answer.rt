@@ -1,9 +1,10 @@
 // An answer before its memory: the refusal number, the kind of the result, and the result. What a result does not use is zero.
 use crate::layout::*;
-use access::PAST;
-use lane::reinterpret::unsigned32;
-use lane::reinterpret::unsigned64;
-use loads::LoadAnswer;
+use lane_integer::reinterpret::unsigned32;
+use lane_integer::reinterpret::unsigned64;
+use memory_access::PAST;
+use memory_loads::LoadAnswer;
+use memory_store_answer::StoreAnswer;
 use simd::V128;
 use simd::answer::F32Answer;
 use simd::answer::F64Answer;
@@ -11,7 +12,6 @@ use simd::answer::I32Answer;
 use simd::answer::I64Answer;
 use simd::answer::U32Answer;
 use simd::answer::VectorAnswer;
-use store_answer::StoreAnswer;
 
 // No such function here, or no request to answer.
 const NONE: u8 = 255;

@@ -3,12 +3,12 @@ use crate::answer::Answer;
 use crate::layout::low8;
 use crate::layout::low16;
 use crate::layout::low32;
-use float_lane::F32;
-use float_lane::F64;
-use lane::reinterpret::signed8;
-use lane::reinterpret::signed16;
-use lane::reinterpret::signed32;
-use lane::reinterpret::signed64;
+use lane_float::F32;
+use lane_float::F64;
+use lane_integer::reinterpret::signed8;
+use lane_integer::reinterpret::signed16;
+use lane_integer::reinterpret::signed32;
+use lane_integer::reinterpret::signed64;
 use simd::V128;
 
 pub fn extract(f: u16, a: V128, lane: u8) -> Answer {

@@ -12,7 +12,7 @@ fn main() {
     }
     // "list length not a multiple of 32, or above 8,192": one byte above decides, so no more than that is read.
     let mut list = [0u8; 8193];
-    let reading = input::read_to(&mut list);
+    let reading = program_input::read_to(&mut list);
     if reading.failed {
         os::fail(b"disassemble: standard input");
         return;

@@ -5,10 +5,10 @@ ghost use mathlib.Core.Path.{_≡_};
 ghost use mathlib.Core.Bool.{false};
 ghost use lib.ListN.{length, take, drop};
 ghost use lib.ListN as List;
-ghost use Rattle.windows.specs.Definition.{binary, bits, mark, window, distance, first-from, find};
-ghost use Rattle.windows.specs.Answer.{answer-of};
-ghost use Rattle.columns.specs.Columns.{Columns};
-pub use windows::Answer;
+ghost use Rattle.finder_windows.specs.Definition.{binary, bits, mark, window, distance, first-from, find};
+ghost use Rattle.finder_windows.specs.Answer.{answer-of};
+ghost use Rattle.finder_columns.specs.Columns.{Columns};
+pub use finder_windows::Answer;
 
 // How many positions are searched by words before columns are made, which costs as much as 700 of them: a short buffer, or a match that stands early, waits for
 // none.
@@ -24,7 +24,7 @@ fn word_at(buffer: &[u8], at: usize) -> u64
 {
     let mut word: u64 = 0;
     for i in 0..8 {
-        word = word * 256 + windows::wide(buffer[at + i]);
+        word = word * 256 + finder_windows::wide(buffer[at + i]);
     }
     word
 }
@@ -35,7 +35,7 @@ fn apart(word: u64, k: usize, marker: u32) -> u32
     ensures { λ r. ⌜ r ≡ distance (window (binary 64 word) k) (mark marker) ⌝ }
 {
     let seen = ((word >> (32 - k)) % 4294967296) as u32;
-    windows::apart(seen, marker)
+    finder_windows::apart(seen, marker)
 }
 
 // Whether any of the first 32 windows of a word is within the tolerance. A turn decides nothing, so the compiler takes four at once. Only `false` is a
@@ -76,13 +76,13 @@ fn among(
         let first = apart(here, k, marker);
         if first <= tolerance {
             let second = apart(later, start + k, marker);
-            let answer = windows::judged(8 * at + k, first, second, tolerance);
+            let answer = finder_windows::judged(8 * at + k, first, second, tolerance);
             let Answer::Refused(_) = answer else {
                 return answer;
             };
         }
     }
-    Answer::Refused(windows::NONE)
+    Answer::Refused(finder_windows::NONE)
 }
 
 // The search among positions from a byte on, sixteen at a time.
@@ -150,15 +150,15 @@ fn by_columns<'a>(
     ensures { λ r. ⌜ (Columns marker tolerance (now (table .entry)) → answer-of r ≡ first-from (bits (now (buffer .entry))) (mark marker) tolerance frame count (8 * from)) ⌝ }
 {
     let end = from + count / 8;
-    let mut at = passing::next(buffer, from, end, table);
+    let mut at = finder_passing::next(buffer, from, end, table);
     while at < end {
         let answer = among(buffer, at, 0, 8, marker, tolerance, frame);
         let Answer::Refused(_) = answer else {
             return answer;
         };
-        let later = passing::next(buffer, at + 1, end, table);
+        let later = finder_passing::next(buffer, at + 1, end, table);
         if later <= at {
-            return Answer::Refused(windows::NONE);
+            return Answer::Refused(finder_windows::NONE);
         }
         at = later;
     }
@@ -173,10 +173,10 @@ fn only(buffer: &[u8], marker: u32, tolerance: u32, frame: usize) -> Answer
 {
     let first = apart(word_at(buffer, 0), 0, marker);
     if first > tolerance {
-        return Answer::Refused(windows::NONE);
+        return Answer::Refused(finder_windows::NONE);
     }
     let second = apart(word_at(buffer, buffer.len() - 8), 32, marker);
-    windows::judged(0, first, second, tolerance)
+    finder_windows::judged(0, first, second, tolerance)
 }
 
 // The positions that are searched by words.
@@ -205,7 +205,7 @@ fn search(buffer: &[u8], marker: u32, tolerance: u32, frame: usize) -> Answer
     let Answer::Refused(_) = answer else {
         return answer;
     };
-    let table = columns::columns(marker, tolerance);
+    let table = finder_columns::columns(marker, tolerance);
     by_columns(
         buffer,
         words / 8,
@@ -221,7 +221,7 @@ fn search(buffer: &[u8], marker: u32, tolerance: u32, frame: usize) -> Answer
 pub fn find(buffer: &[u8], marker: u32, tolerance: u32, length: u32) -> Answer
     ensures { λ r. ⌜ answer-of r ≡ find (now (buffer .entry)) marker tolerance length ⌝ }
 {
-    let refused = windows::refusal(buffer, tolerance, length);
+    let refused = finder_windows::refusal(buffer, tolerance, length);
     if refused != 0 {
         return Answer::Refused(refused);
     }
@@ -242,17 +242,17 @@ pub fn next<'a>(
     let frame = length as usize;
     let bytes = buffer.len();
     if length < 64 {
-        return Answer::Refused(windows::NONE);
+        return Answer::Refused(finder_windows::NONE);
     }
     if bytes > LONGEST {
-        return Answer::Refused(windows::NONE);
+        return Answer::Refused(finder_windows::NONE);
     }
     if 8 * bytes < frame + 31 {
-        return Answer::Refused(windows::NONE);
+        return Answer::Refused(finder_windows::NONE);
     }
     let positions = 8 * bytes - frame - 31;
     if positions < from {
-        return Answer::Refused(windows::NONE);
+        return Answer::Refused(finder_windows::NONE);
     }
     let at = from / 8;
     let left = positions - 8 * at;

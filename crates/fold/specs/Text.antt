@@ -5,7 +5,7 @@ use mathlib.Core.List.{List, [], _∷_}
 use lib.Dec.{ltb}
 use lib.ListN.{take, drop, replicate}
 use Rattle.chain.specs.Definition.{refusal, folded, left}
-use Rattle.program_lines.specs.Lines.{fold}
+use Rattle.program_reports.specs.Lines.{fold}
 
 -- The first n links of the bytes.
 unfoldable pub links : ℕ → List ℕ → List (List ℕ)

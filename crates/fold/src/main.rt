@@ -51,7 +51,7 @@ fn answer(bytes: [u8; 289], n: usize, out: &mut [u8; 128]) -> usize
     let links = links_of(bytes);
     let mut indices = [0u8; 16];
     let refused = chain_fold::fold(&links[..count], &mut indices);
-    program_lines::fold(refused, indices, out)
+    program_reports::fold(refused, indices, out)
 }
 
 fn main() {
@@ -63,7 +63,7 @@ fn main() {
         return;
     }
     let mut bytes = [0u8; 289];
-    let reading = input::read_to(&mut bytes[..DECIDES]);
+    let reading = program_input::read_to(&mut bytes[..DECIDES]);
     if reading.failed {
         os::fail(b"fold: standard input");
         return;

@@ -2,11 +2,11 @@
 use Prim.Native.Nat.{ℕ}
 use mathlib.Core.Path.{_≡_, refl}
 use mathlib.Core.List.{List}
-use Rattle.rules.specs.Definition.{Machine}
-use Rattle.scalar.specs.Scalar.{kind-of, bits-of, scalar-of}
-use Rattle.scalar.specs.declared.Scalar.{Scalar}
-use Rattle.state.specs.State.{vectors}
-use Rattle.handover_station.specs.Calculate.{held, machine-held}
+use Rattle.calculator_rules.specs.Definition.{Machine}
+use Rattle.calculator_scalar.specs.Scalar.{kind-of, bits-of, scalar-of}
+use Rattle.calculator_scalar.specs.declared.Scalar.{Scalar}
+use Rattle.calculator_state.specs.State.{vectors}
+use Rattle.link_station.specs.Calculate.{held, machine-held}
 
 -- the state of a scalar is the one that the scalar's numbers stand for
 pub machines : (r w n : List ℕ) (s : Scalar) (k b : ℕ) → r ≡ vectors w → scalar-of s ≡ held k b

@@ -1,18 +1,18 @@
 // The calculator (document 01, "The calculator (added)"; document 02, orders 1, 2 and 12): a run of a list of steps from a place under a limit. The registers are 32
 // words, two a register, low half first; beside each stands the number of the step that wrote it.
 ghost use mathlib.Core.Path.{_≡_};
-ghost use Rattle.rules.specs.Definition;
-ghost use Rattle.state.specs.State.{vectors};
-ghost use Rattle.handover_station.specs.Calculate.{machine-held, step-numbers, left-by-step, run-numbers, left-by-run};
-use handover_station::calculation::KindAndBits;
-use handover_station::calculation::RunAnswer;
-use handover_station::calculation::StepAnswer;
-use handover_station::calculation::kind_and_bits;
-use handover_station::calculation::run_answer;
-use handover_station::calculation::scalar_of;
-use state::State;
-use state::registers::of_words;
-use state::registers::words;
+ghost use Rattle.calculator_rules.specs.Definition;
+ghost use Rattle.calculator_state.specs.State.{vectors};
+ghost use Rattle.link_station.specs.Calculate.{machine-held, step-numbers, left-by-step, run-numbers, left-by-run};
+use calculator_state::State;
+use calculator_state::registers::of_words;
+use calculator_state::registers::words;
+use link_station::calculation::KindAndBits;
+use link_station::calculation::RunAnswer;
+use link_station::calculation::StepAnswer;
+use link_station::calculation::kind_and_bits;
+use link_station::calculation::run_answer;
+use link_station::calculation::scalar_of;
 
 // Performs an operation by its number: the step of 32 bytes, as the one at a place of a list, counted from 0. A step that is refused changes nothing.
 #[no_mangle]
@@ -25,7 +25,7 @@ pub extern "C" fn gatulefo_step(
 ) -> StepAnswer
     ensures { λ r. ⌜ step-numbers (vectors (now (registers .exit))) (now (writers .exit)) r ≡ left-by-step (machine-held (now (registers .entry)) (now (writers .entry)) (scalar .kind) (scalar .bits)) (Definition.step place (machine-held (now (registers .entry)) (now (writers .entry)) (scalar .kind) (scalar .bits)) (now (step .entry))) ⌝ }
 {
-    let stepped = step::step(registers, writers, scalar_of(scalar), place, step);
+    let stepped = calculator_step::step(registers, writers, scalar_of(scalar), place, step);
     let left = stepped.scalar;
     StepAnswer {
         scalar: kind_and_bits(left),

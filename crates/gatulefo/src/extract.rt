@@ -1,14 +1,14 @@
 // Extract: the lane at a number below the lane count; any other number is refused with 4.
-ghost use Rattle.handover.specs.Answer.{pair};
+ghost use Rattle.link_answers.specs.Answer.{pair};
 ghost use Rattle.simd.specs.Number.{number};
 ghost use Rattle.standard.specs.Integer.{extend-s};
 ghost use Rattle.standard.specs.Lanes.{extract};
 ghost use Rattle.standard.specs.Refusal.{at-lane};
 ghost use mathlib.Core.Path.{_≡_};
-use handover::answer::BitsOrRefusal;
-use handover::answer::of_i32;
-use handover::answer::of_i64;
-use handover::answer::of_u32;
+use link_answers::answer::BitsOrRefusal;
+use link_answers::answer::of_i32;
+use link_answers::answer::of_i64;
+use link_answers::answer::of_u32;
 use simd::V128;
 
 #[no_mangle]

@@ -1,9 +1,9 @@
 // The marker finder (document 02, order 5): the smallest bit position at which a marker stands and stands again one frame later.
 ghost use mathlib.Core.Path.{_≡_};
-ghost use Rattle.windows.specs.Definition.{find};
-ghost use Rattle.handover_station.specs.Find.{finding, position-numbers};
-use handover_station::position::PositionOrRefusal;
-use handover_station::position::position_or_refusal;
+ghost use Rattle.finder_windows.specs.Definition.{find};
+ghost use Rattle.link_station.specs.Find.{finding, position-numbers};
+use link_station::position::PositionOrRefusal;
+use link_station::position::position_or_refusal;
 
 // Where the marker stands in the buffer, each of its two windows off by at most `tolerance` bits, in frames of `length` bits.
 #[no_mangle]

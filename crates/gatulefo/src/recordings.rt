@@ -1,15 +1,15 @@
 // Field recordings (document 02, orders 8 and 10): a list's run recorded, a recording replayed, and a damaged one mended.
 ghost use mathlib.Core.Path.{_≡_};
-ghost use Rattle.records.specs.Definition.{recorded, replay};
-ghost use Rattle.mending_rules.specs.Definition.{mending};
-ghost use Rattle.handover_station.specs.Mending.{mended-of};
-ghost use Rattle.handover_station.specs.Recording.{record-numbers, left-by-recorder, replay-numbers, replayed};
-use handover_station::mended::MendAnswer;
-use handover_station::mended::mend_answer;
-use handover_station::recorded::RecordAnswer;
-use handover_station::recorded::ReplayAnswer;
-use handover_station::recorded::record_answer;
-use handover_station::recorded::replay_answer;
+ghost use Rattle.recording_rules.specs.Definition.{recorded, replay};
+ghost use Rattle.recording_mending_rules.specs.Definition.{mending};
+ghost use Rattle.link_station.specs.Mending.{mended-of};
+ghost use Rattle.link_station.specs.Recording.{record-numbers, left-by-recorder, replay-numbers, replayed};
+use link_station::mended::MendAnswer;
+use link_station::mended::mend_answer;
+use link_station::recorded::RecordAnswer;
+use link_station::recorded::ReplayAnswer;
+use link_station::recorded::record_answer;
+use link_station::recorded::replay_answer;
 
 // Runs the list from zero registers and i32 0, and writes its recording to `out`, which 18,944 bytes are enough for.
 #[no_mangle]
@@ -32,5 +32,5 @@ pub extern "C" fn gatulefo_replay(file: &[u8]) -> ReplayAnswer
 pub extern "C" fn gatulefo_mend(file: &[u8], out: &mut [u8]) -> MendAnswer
     ensures { λ r. ⌜ (mended-of r, now (out .exit)) ≡ mending (now (file .entry)) (now (out .entry)) ⌝ }
 {
-    mend_answer(mending::mend(file, out))
+    mend_answer(recording_mending::mend(file, out))
 }

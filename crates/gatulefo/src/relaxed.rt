@@ -1,5 +1,5 @@
 // The relaxed instructions of WebAssembly 3.0 that are carried over, each as the Rust chooses: the plain operation, and the two dots. What 3.0 allows, and
-// that each answer is among it, but for dots that meet four −128, is the crate `relaxed`.
+// that each answer is among it, but for dots that meet four −128, is the crate `lane_relaxed_theorems`.
 ghost use Rattle.simd.specs.Number.{number};
 ghost use lib.Ieee.{binary32, binary64};
 ghost use Rattle.standard.specs.Relaxed.{relaxed-swizzle, relaxed-laneselect, relaxed-q15mulr, relaxed-min, relaxed-max, relaxed-dot, relaxed-dot-add};

@@ -1,12 +1,12 @@
 // Replace: a new vector with one lane changed; a lane number not below the lane count is refused with 4. Behind `gatulefo_value_` the vector alone, 0 where it is refused.
-ghost use Rattle.handover.specs.Answer.{pair, or-zero};
+ghost use Rattle.link_answers.specs.Answer.{pair, or-zero};
 ghost use Rattle.simd.specs.Number.{number};
 ghost use Rattle.standard.specs.Lanes.{replace};
 ghost use Rattle.standard.specs.Refusal.{at-lane};
 ghost use mathlib.Core.Path.{_≡_};
-use handover::answer::VectorOrRefusal;
-use handover::answer::of_vector;
-use handover::answer::vector_or_zero;
+use link_answers::answer::VectorOrRefusal;
+use link_answers::answer::of_vector;
+use link_answers::answer::vector_or_zero;
 use simd::V128;
 
 #[no_mangle]

@@ -5,14 +5,14 @@ ghost use mathlib.Core.List.{map};
 ghost use lib.ListN.{length};
 ghost use Rattle.standard.specs.Integer.{iadd, ixor, ipopcnt};
 ghost use Rattle.standard.specs.Lanes.{unary, binary, zip};
-ghost use Rattle.half_rows.specs.Rows.{vectors, halves, half-refusal, after};
+ghost use Rattle.row_halves.specs.Rows.{vectors, halves, half-refusal, after};
 
 #[no_mangle]
 pub extern "C" fn gatulefo_row_i8x16_add(first: &mut [u64], second: &[u64]) -> u8
     ensures { λ r. ⌜ r ≡ half-refusal (length (now (first .entry))) (length (now (second .entry))) ⌝ }
     ensures { λ r. ⌜ now (first .exit) ≡ after r (halves (zip (binary 8 (iadd 8)) (vectors (now (first .entry))) (vectors (now (second .entry))))) (now (first .entry)) ⌝ }
 {
-    half_rows::i8x16_add(first, second)
+    row_halves::i8x16_add(first, second)
 }
 
 #[no_mangle]
@@ -20,7 +20,7 @@ pub extern "C" fn gatulefo_row_v128_xor(first: &mut [u64], second: &[u64]) -> u8
     ensures { λ r. ⌜ r ≡ half-refusal (length (now (first .entry))) (length (now (second .entry))) ⌝ }
     ensures { λ r. ⌜ now (first .exit) ≡ after r (halves (zip (ixor 128) (vectors (now (first .entry))) (vectors (now (second .entry))))) (now (first .entry)) ⌝ }
 {
-    half_rows::v128_xor(first, second)
+    row_halves::v128_xor(first, second)
 }
 
 #[no_mangle]
@@ -28,5 +28,5 @@ pub extern "C" fn gatulefo_row_i8x16_popcnt(first: &mut [u64]) -> u8
     ensures { λ r. ⌜ r ≡ half-refusal (length (now (first .entry))) (length (now (first .entry))) ⌝ }
     ensures { λ r. ⌜ now (first .exit) ≡ after r (halves (map (unary 8 (ipopcnt 8)) (vectors (now (first .entry))))) (now (first .entry)) ⌝ }
 {
-    half_rows::i8x16_popcnt(first)
+    row_halves::i8x16_popcnt(first)
 }

@@ -2,10 +2,10 @@
 ghost use mathlib.Core.Path.{_≡_};
 ghost use Prim.Native.Nat.{_+_};
 ghost use Rattle.standard.specs.Memory.{within};
-ghost use Rattle.handover.specs.Answer.{access-numbers};
-use bounds::Access;
-use bounds::Effective;
-use bounds::reach;
+ghost use Rattle.link_answers.specs.Answer.{access-numbers};
+use memory_bounds::Access;
+use memory_bounds::Effective;
+use memory_bounds::reach;
 
 // The exact end of the access of so many bytes minus the length of the memory, at most 2^64-1; 0 where the access is allowed. The address of an `_at` function is
 // `ptr`, with the offset 0.

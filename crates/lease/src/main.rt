@@ -1,9 +1,9 @@
 // The program `lease` (document 02, order 12): reads a step list from standard input, starts from zero registers and scalar i32 0 as `lanes` does, takes the
 // list up at a place under a limit, and again after each pause at the place reported, until it ends or is refused. A line for each call; then the listing that
 // `lanes` writes, with the counts added up.
-use arguments::Numeral;
 use libc::STDERR_FILENO;
 use libc::STDOUT_FILENO;
+use program_arguments::Numeral;
 use program_listing::lease::lease;
 
 struct Task {
@@ -20,7 +20,7 @@ enum Asked {
 fn decimal_at(i: usize) -> Numeral {
     let mut text = [0u8; 131072];
     let n = os::arg(i, &mut text);
-    arguments::decimal(&text[..n])
+    program_arguments::decimal(&text[..n])
 }
 
 fn read_arguments() -> Asked {
@@ -46,7 +46,7 @@ fn main() {
     };
     // "list length not a multiple of 32, or above 8,192": one byte above decides, so no more than that is read.
     let mut list = [0u8; 8193];
-    let reading = input::read_to(&mut list);
+    let reading = program_input::read_to(&mut list);
     if reading.failed {
         os::fail(b"lease: standard input");
         return;

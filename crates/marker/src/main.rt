@@ -4,13 +4,13 @@ ghost use Prim.Native.Nat.{ℕ};
 ghost use mathlib.Core.Path.{_≡_};
 ghost use mathlib.Core.Bool.{true};
 ghost use mathlib.Core.List.{List, []};
-ghost use Rattle.windows.specs.Definition.{find};
+ghost use Rattle.finder_windows.specs.Definition.{find};
 ghost use Rattle.program_digits.specs.Put.{Filled};
-ghost use Rattle.program_lines.specs.Lines.{marker};
-use arguments::Numeral;
+ghost use Rattle.program_reports.specs.Lines.{marker};
 use finder::Answer;
 use libc::STDERR_FILENO;
 use libc::STDOUT_FILENO;
+use program_arguments::Numeral;
 
 struct Task {
     marker: u32,
@@ -27,7 +27,7 @@ enum Asked {
 fn answer(buffer: &[u8], task: Task, out: &mut [u8; 128]) -> usize
     ensures { λ r. ⌜ Filled (now (out .entry)) (marker (find (now (buffer .entry)) (task .marker) (task .tolerance) (task .length))) (now (out .exit)) r ⌝ }
 {
-    program_lines::marker(
+    program_reports::marker(
         finder::find(buffer, task.marker, task.tolerance, task.length),
         out,
     )
@@ -45,13 +45,13 @@ fn report(buffer: &[u8], task: Task) {
 fn decimal_at(i: usize) -> Numeral {
     let mut text = [0u8; 131072];
     let n = os::arg(i, &mut text);
-    arguments::decimal(&text[..n])
+    program_arguments::decimal(&text[..n])
 }
 
 fn marker_at(i: usize) -> Numeral {
     let mut text = [0u8; 8];
     let n = os::arg(i, &mut text);
-    arguments::eight_hex_digits(&text[..n])
+    program_arguments::eight_hex_digits(&text[..n])
 }
 
 fn read_arguments() -> Asked {
@@ -98,7 +98,7 @@ fn main() {
     }
     // "buffer above 65,536 bytes": one byte above decides, so no more than that is read.
     let mut buffer = [0u8; 65537];
-    let reading = input::read_to(&mut buffer);
+    let reading = program_input::read_to(&mut buffer);
     if reading.failed {
         os::fail(b"marker: standard input");
         return;

@@ -2,7 +2,7 @@
 // put back, up to the first that can not be mended. On standard error a line for each bit put back, and one for the block at which it stopped.
 use libc::STDERR_FILENO;
 use libc::STDOUT_FILENO;
-use mending::mend;
+use recording_mending::mend;
 
 // The longest recording is 37 blocks.
 fn write_mended(file: &[u8]) {
@@ -14,7 +14,7 @@ fn write_mended(file: &[u8]) {
         return;
     }
     let mut said = [0u8; 2048];
-    let n = program_lines::mend_said(mended, &mut said);
+    let n = program_reports::mend_said(mended, &mut said);
     io::write_all(STDERR_FILENO, &said[..n]);
 }
 
@@ -28,7 +28,7 @@ fn main() {
     }
     // "above 37 blocks": one byte above decides, so no more than that is read.
     let mut file = [0u8; 18945];
-    let reading = input::read_to(&mut file);
+    let reading = program_input::read_to(&mut file);
     if reading.failed {
         os::fail(b"mend: standard input");
         return;

@@ -4,7 +4,7 @@ use mathlib.Core.Path.{_≡_, refl, sym, ap}
 use mathlib.Core.List.{List, [], _∷_}
 use Prim.Native.Nat.{ℕ, zero, suc, _+_, _*_, _/_, _≤_}
 use lib.ListN.{length, getD, List·getD-eq-default}
-use Rattle.packed.specs.Half.{half-unary, half-binary}
+use Rattle.packed_half.specs.Half.{half-unary, half-binary}
 use Rattle.packed_choose.specs.Choose.{Unary, Binary, unaries, binaries, unary-at, binary-at, half-unary-of, half-binary-of}
 
 pub no-unary : (op count a : ℕ) → length (unaries count) ≤ op → 0 ≡ half-unary-of op count a

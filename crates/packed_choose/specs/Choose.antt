@@ -4,7 +4,7 @@ use Prim.Native.Nat.{ℕ}
 use mathlib.Core.List.{List, [], _∷_}
 use lib.ListN.{getD}
 use Rattle.standard.specs.Integer.{iadd, isub, ineg, ieq, iavgr-u, ipopcnt, ishl, ishr-u}
-use Rattle.packed.specs.Half.{half-unary, half-binary}
+use Rattle.packed_half.specs.Half.{half-unary, half-binary}
 
 pub record Unary : Type 0 where
   pub width : ℕ

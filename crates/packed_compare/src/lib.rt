@@ -2,13 +2,13 @@
 // are found by their top bits, which are brought down to the lanes' lowest bits and spread over the lanes by a product.
 ghost use mathlib.Core.Path.{_≡_};
 ghost use Rattle.standard.specs.Integer.{ieq};
-ghost use Rattle.packed.specs.Half.{half-unary, half-binary, zero-top};
-use packed::masks::LOW8;
-use packed::masks::LOW16;
-use packed::masks::LOW32;
-use packed::masks::TOP8;
-use packed::masks::TOP16;
-use packed::masks::TOP32;
+ghost use Rattle.packed_half.specs.Half.{half-unary, half-binary, zero-top};
+use packed_half::masks::LOW8;
+use packed_half::masks::LOW16;
+use packed_half::masks::LOW32;
+use packed_half::masks::TOP8;
+use packed_half::masks::TOP16;
+use packed_half::masks::TOP32;
 
 // The top bit of each lane that is 0. All low bits added to a lane's low bits set its top bit where one of them is set, and carry no further.
 pub fn zeros8(a: u64) -> u64

@@ -2,7 +2,7 @@
 // bits, of each four, of each eight.
 ghost use mathlib.Core.Path.{_≡_};
 ghost use Rattle.standard.specs.Integer.{ipopcnt};
-ghost use Rattle.packed.specs.Half.{half-unary};
+ghost use Rattle.packed_half.specs.Half.{half-unary};
 
 // Every second bit, pair of bits and nibble.
 const BITS: u64 = 0x5555_5555_5555_5555;

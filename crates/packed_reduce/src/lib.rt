@@ -3,7 +3,7 @@
 ghost use mathlib.Core.Path.{_≡_};
 ghost use mathlib.Core.Bool.{cond};
 ghost use Rattle.standard.specs.Vector.{any-true};
-ghost use Rattle.packed.specs.Half.{half-all-true, half-bitmask};
+ghost use Rattle.packed_half.specs.Half.{half-all-true, half-bitmask};
 use packed_compare::zeros8;
 use packed_compare::zeros16;
 use packed_compare::zeros32;

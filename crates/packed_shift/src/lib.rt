@@ -2,10 +2,10 @@
 // The bits that would reach another lane are masked away. The mask is the lowest bit of each lane times the bits that one lane keeps.
 ghost use mathlib.Core.Path.{_≡_};
 ghost use Rattle.standard.specs.Integer.{ishl, ishr-u};
-ghost use Rattle.packed.specs.Half.{half-unary};
-use packed::masks::ONE8;
-use packed::masks::ONE16;
-use packed::masks::ONE32;
+ghost use Rattle.packed_half.specs.Half.{half-unary};
+use packed_half::masks::ONE8;
+use packed_half::masks::ONE16;
+use packed_half::masks::ONE32;
 
 pub fn shl8(a: u64, count: u32) -> u64
     ensures { λ r. ⌜ r ≡ half-unary 8 (ishl 8 count) a ⌝ }

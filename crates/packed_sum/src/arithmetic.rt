@@ -3,13 +3,13 @@
 // The top bits are then put right by an exclusive-or.
 ghost use mathlib.Core.Path.{_≡_};
 ghost use Rattle.standard.specs.Integer.{iadd, isub, ineg};
-ghost use Rattle.packed.specs.Half.{half-unary, half-binary};
-use packed::masks::LOW8;
-use packed::masks::LOW16;
-use packed::masks::LOW32;
-use packed::masks::TOP8;
-use packed::masks::TOP16;
-use packed::masks::TOP32;
+ghost use Rattle.packed_half.specs.Half.{half-unary, half-binary};
+use packed_half::masks::LOW8;
+use packed_half::masks::LOW16;
+use packed_half::masks::LOW32;
+use packed_half::masks::TOP8;
+use packed_half::masks::TOP16;
+use packed_half::masks::TOP32;
 
 pub fn add8(a: u64, b: u64) -> u64
     ensures { λ r. ⌜ r ≡ half-binary 8 (iadd 8) a b ⌝ }

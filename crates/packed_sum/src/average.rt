@@ -3,9 +3,9 @@
 // they differ.
 ghost use mathlib.Core.Path.{_≡_};
 ghost use Rattle.standard.specs.Integer.{iavgr-u};
-ghost use Rattle.packed.specs.Half.{half-binary};
-use packed::masks::LOW8;
-use packed::masks::LOW16;
+ghost use Rattle.packed_half.specs.Half.{half-binary};
+use packed_half::masks::LOW8;
+use packed_half::masks::LOW16;
 
 pub fn avgr_u8(a: u64, b: u64) -> u64
     ensures { λ r. ⌜ r ≡ half-binary 8 (iavgr-u 8) a b ⌝ }

@@ -15,8 +15,8 @@ use Rattle.standard.specs.Lanes.{digits, joined, unary, binary}
 use Rattle.standard.specs.Vector.{no-zero, any-true, all-true, bitmask}
 use Rattle.standard.proofs.Digits.{length-digits, joined-append}
 use Rattle.standard.proofs.Halves.{lanes-halves, unary-halves, binary-halves, map-append}
-use Rattle.packed.specs.Half.{half-unary, half-binary, half-all-true, half-bitmask, sign-bit}
-use Rattle.packed.proofs.Signs.{signs-below}
+use Rattle.packed_half.specs.Half.{half-unary, half-binary, half-all-true, half-bitmask, sign-bit}
+use Rattle.packed_half.proofs.Signs.{signs-below}
 use Rattle.packed_choose.proofs.Table.{Divides}
 use Rattle.simd.specs.declared.V128.{V128}
 use Rattle.simd.specs.Number.{number}

@@ -6,7 +6,7 @@ use native.Mathlib.Nat.{add-zero, add-suc, suc-add, not-suc-le-zero, le-of-suc-l
 use native.Mathlib.Omega.{arith}
 use borrow.Author.Tests.{eq-eqb, ne-eqb, leb-true}
 use mathlib.Core.Bool.{Bool, true, false, cond}
-use Rattle.rules.specs.Definition.{unless, list-refusal}
+use Rattle.calculator_rules.specs.Definition.{unless, list-refusal}
 use lib.Dec.{eqb, leb}
 use lib.ListN.{length, take, drop, replicate, length-append, length-replicate}
 use lib.Seq.{drop-drop, take-append-seam}

@@ -4,7 +4,7 @@ use mathlib.Core.Bool.{cond}
 use mathlib.Core.List.{List, [], _++_}
 use lib.Dec.{eqb}
 use lib.ListN.{length, take, drop, replicate}
-use Rattle.rules.specs.Definition.{list-refusal}
+use Rattle.calculator_rules.specs.Definition.{list-refusal}
 use Rattle.program_digits.specs.Codes.{codes}
 use Rattle.program_digits.specs.Digits.{decimal}
 use Rattle.program_answer.specs.Answer.{Answer, output-alone, said-alone}

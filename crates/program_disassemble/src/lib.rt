@@ -46,7 +46,7 @@ fn put_steps(out: &mut [u8], list: &[u8]) -> usize
 pub fn disassemble(list: &[u8], output: &mut [u8; 65536], said: &mut [u8; 32]) -> Told
     ensures { λ r. ⌜ Tells (told (now (list .entry))) (now (output .entry)) (now (said .entry)) (now (output .exit)) (now (said .exit)) r ⌝ }
 {
-    let refused = limits::judge(list.len(), 0, 256);
+    let refused = calculator_limits::judge(list.len(), 0, 256);
     if refused != 0 {
         let n = program_digits::put_count(said, 0, b"refused ", refused as u64);
         return Told { output: 0, said: n };

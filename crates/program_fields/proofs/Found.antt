@@ -10,7 +10,7 @@ use borrow.Author.Tests.{lt-ltb, le-ltb, eq-eqb, ne-eqb}
 use lib.Dec.{eqb, ltb, leb}
 use lib.ListN.{length, getD, take, drop, length-drop, drop-of-length-le}
 use lib.Seq.{drop-cons}
-use Rattle.arguments.specs.Arguments.{Numeral, number, none, digit, decimal}
+use Rattle.program_arguments.specs.Arguments.{Numeral, number, none, digit, decimal}
 use Rattle.program_words.specs.Cut.{blank, before, onward}
 use Rattle.program_words.specs.Stops.{Scanned}
 use Rattle.program_fields.specs.Fields.{Field, register, lane, mark, byte, Found, found, nothing, between, number-in, as-register, as-byte, find}

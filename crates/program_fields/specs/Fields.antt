@@ -3,7 +3,7 @@ use Prim.Native.Nat.{ℕ, _+_, _*_}
 use mathlib.Core.Bool.{cond, _&&_}
 use mathlib.Core.List.{List, [], _∷_}
 use lib.Dec.{eqb, ltb, leb}
-use Rattle.arguments.specs.Arguments.{Numeral, number, none, digit, decimal}
+use Rattle.program_arguments.specs.Arguments.{Numeral, number, none, digit, decimal}
 use Rattle.program_words.specs.Cut.{word, after}
 
 -- "sources a, b, c as `r0` to `r15`, a lane in decimal, sixteen bytes in hex"; "`packed N`, the mark's byte"

@@ -2,10 +2,10 @@
 ghost use Prim.Native.Nat.{_≤_};
 ghost use mathlib.Core.Path.{_≡_};
 ghost use lib.ListN.{length, drop};
-ghost use Rattle.arguments.specs.Arguments.{digit, decimal};
+ghost use Rattle.program_arguments.specs.Arguments.{digit, decimal};
 ghost use Rattle.program_fields.specs.Fields.{between, number-in, as-byte, find};
 ghost use Rattle.program_fields.specs.Values.{field-of, Finds};
-use arguments::Numeral;
+use program_arguments::Numeral;
 use program_words::Stop;
 
 // How a field is written: `r0` to `r15`; 0 to 255; 1 to 255; two hex digits.
@@ -26,7 +26,7 @@ fn within(line: &[u8], low: u8, high: u8, word: &[u8], next: usize) -> Value
     requires { ⌜ next ≤ length (now line) ⌝ }
     ensures { λ r. ⌜ Finds (now (line .entry)) (between low high (drop next (now (line .entry))) (decimal (now (word .entry)))) r ⌝ }
 {
-    match arguments::decimal(word) {
+    match program_arguments::decimal(word) {
         Numeral::Number(n) => {
             if (low as u32 <= n) & (n <= high as u32) {
                 Value::Some(n as u8, next)

@@ -4,8 +4,8 @@ use Prim.Native.Nat.{ℕ, _+_, _≤_}
 use native.Mathlib.Omega.{arith}
 use lib.Dec.{eqb, leb}
 use Rattle.standard.specs.Instruction.{instruction}
-use Rattle.rules.specs.Shape.{shape}
-use Rattle.rules.specs.declared.shape.Shape.{Shape}
+use Rattle.calculator_rules.specs.Shape.{shape}
+use Rattle.calculator_rules.specs.declared.shape.Shape.{Shape}
 use Rattle.program_forms.specs.Forms.{Form, of-registers, form-of, form}
 
 pub record Fitting (f : Form) : Type 0 where

@@ -4,8 +4,8 @@ use Prim.Native.Nat.{ℕ}
 use mathlib.Core.Bool.{cond, _&&_, _||_}
 use lib.Dec.{eqb, leb}
 use Rattle.standard.specs.Instruction.{instruction}
-use Rattle.rules.specs.Shape.{shape}
-use Rattle.rules.specs.declared.shape.Shape.{Shape}
+use Rattle.calculator_rules.specs.Shape.{shape}
+use Rattle.calculator_rules.specs.declared.shape.Shape.{Shape}
 
 -- Registers of consecutive places from `first` on, then lane numbers, then bytes. The places are those of a step's bytes: 2 destination; 3, 4, 5 sources a, b,
 -- c; 6 lane; 16 to 31 the constant or the indices. "The destination is used only where the result is a vector"; "splat takes no source register".

@@ -2,7 +2,7 @@
 ghost use mathlib.Core.Path.{_≡_};
 ghost use Rattle.program_forms.specs.Forms.{of-registers, form-of, form};
 ghost use Rattle.program_forms.specs.Takes.{takes-of};
-use rules::shape::Shape;
+use calculator_rules::shape::Shape;
 
 // Registers of consecutive places of the step from `first` on, lane numbers, bytes: how many of each.
 pub struct Takes {
@@ -71,5 +71,5 @@ pub fn of(operation: u16) -> Takes
     if (261 <= operation) & (operation <= 264) {
         return registers(2, 4);
     }
-    of_shape(decision::decide(operation))
+    of_shape(calculator_shape::decide(operation))
 }

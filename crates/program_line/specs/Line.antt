@@ -53,7 +53,7 @@ unfoldable pub take-form : Form → State → State
 take-form f x =
     take-fields byte (f .bytes) 16 (take-fields lane (f .lanes) 6 (take-fields register (f .registers) (f .first) x))
 
--- "then `packed` (or `packed N`, the mark's byte)", which is byte 7. A blank stands before it, so that no hex digits run into it.
+-- "then `packed_half` (or `packed N`, the mark's byte)", which is byte 7. A blank stands before it, so that no hex digits run into it.
 abbrev pub apart : List ℕ → Bool
 apart [] = false
 apart (c ∷ cs) = blank c
@@ -88,7 +88,7 @@ of-operation n = set (set blank-step 0 (n % 256)) 1 (n / 256)
 unfoldable pub named : ℕ → List ℕ → Line
 named n cs = cond (ltb n 276) (end-line (take-packed (take-form (form n) (going cs (of-operation n))))) (refused no-such-name)
 
--- "`step` and 32 bytes in hex writes any step whatever"
+-- "`calculator_step` and 32 bytes in hex writes any step whatever"
 unfoldable pub stated : List ℕ → Line
 unfolding codes
 stated [] = empty

@@ -90,7 +90,7 @@ fn take_form(line: &[u8], r: Reading, t: Takes) -> Reading
     take_fields(line, with_lane, Field::Byte, t.bytes, 16)
 }
 
-// `packed` alone: mark 1; `packed` and a number: that mark. A blank stands before it, where bytes stand before it too.
+// `packed_half` alone: mark 1; `packed_half` and a number: that mark. A blank stands before it, where bytes stand before it too.
 fn take_packed(line: &[u8], r: Reading) -> Reading
     requires { ⌜ r .at ≤ length (now line) ⌝ }
     ensures { λ q. ⌜ Stands (now (line .entry)) q take-packed r ⌝ }

@@ -7,9 +7,9 @@ use native.Mathlib.Omega.{arith}
 use lib.Dec.{eqb}
 use lib.ListN.{length, drop, length-append}
 use borrow.Author.Tests.{eq-eqb, ne-eqb, eqb-true}
-use Rattle.rules.specs.Definition as definition
-use Rattle.rules.specs.Definition.{Machine, Outcome, ended, paused, stopped, Ending, nothing-done, steps, list-refusal, taken-up, start, run}
-use Rattle.rules.proofs.Pauses.{fits}
+use Rattle.calculator_rules.specs.Definition as definition
+use Rattle.calculator_rules.specs.Definition.{Machine, Outcome, ended, paused, stopped, Ending, nothing-done, steps, list-refusal, taken-up, start, run}
+use Rattle.calculator_rules.proofs.Pauses.{fits}
 use Rattle.program_digits.specs.Codes.{codes}
 use Rattle.program_digits.proofs.Laws.{decimal-length}
 use Rattle.program_listing.specs.Listing.{listing, refused-by, lanes-text}

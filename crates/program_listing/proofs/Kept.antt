@@ -7,7 +7,7 @@ use lib.Dec.{eqb}
 use lib.ListN.{length, take, drop, length-set}
 use Rattle.standard.specs.Refusal.{given, refused}
 use Rattle.standard.specs.Instruction.{Instruction, none, memory, const, shuffled, vector₁, vector₂, vector₃, shifted, tested, splatted, extracted, replaced, instruction}
-use Rattle.rules.specs.Definition.{Machine, stopped, nothing-done, counting, after, operation, profile, refusal, effect, step, steps, reset, taken-up, list-refusal, run}
+use Rattle.calculator_rules.specs.Definition.{Machine, stopped, nothing-done, counting, after, operation, profile, refusal, effect, step, steps, reset, taken-up, list-refusal, run}
 
 effect-kept : (i : Instruction) (place : ℕ) (m : Machine) (s : List ℕ) → length (effect i place m s .registers) ≡ length (m .registers)
 unfolding effect

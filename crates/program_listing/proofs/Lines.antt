@@ -13,7 +13,7 @@ use Rattle.standard.specs.Instruction.{Kind, i32, i64, f32, f64}
 use Rattle.standard.specs.Lanes
 use Rattle.standard.proofs.Halves.{lanes-halves}
 use Rattle.standard.proofs.Digits as lanes
-use Rattle.rules.specs.Definition.{Machine}
+use Rattle.calculator_rules.specs.Definition.{Machine}
 use Rattle.program_digits.specs.Codes.{codes}
 use Rattle.program_digits.specs.Digits.{decimal, hex, hex-bytes}
 use Rattle.program_digits.proofs.Laws.{decimal-length, length-digits, length-hex-bytes, hex-bytes-append}

@@ -4,16 +4,16 @@ use mathlib.Core.List.{List}
 use Prim.Native.Nat.{ℕ, _-_, _/_, _≤_}
 use native.Mathlib.Omega.{arith}
 use lib.ListN.{length}
-use Rattle.rules.specs.Definition as definition
-use Rattle.rules.specs.Definition.{run}
-use Rattle.rules.proofs.Pauses.{At, moves-on, never-above}
+use Rattle.calculator_rules.specs.Definition as definition
+use Rattle.calculator_rules.specs.Definition.{run}
+use Rattle.calculator_rules.proofs.Pauses.{At, moves-on, never-above}
 use Rattle.program_listing.proofs.Calls.{few-steps}
-use Rattle.state.specs.State.{machine}
-use Rattle.limits.specs.Outcome.{outcome-of}
+use Rattle.calculator_state.specs.State.{machine}
+use Rattle.calculator_limits.specs.Outcome.{outcome-of}
 use Rattle.calculator.specs.Run.{ending-of}
-use Rattle.limits.specs.declared.Outcome.{Outcome}
+use Rattle.calculator_limits.specs.declared.Outcome.{Outcome}
 use Rattle.calculator.specs.declared.run.Ending.{Ending}
-use Rattle.state.specs.declared.State.{State}
+use Rattle.calculator_state.specs.declared.State.{State}
 
 module _ (list : List ℕ) (place limit : ℕ) (state : State) (r : Ending) (promise : ending-of r ≡ run list place limit (machine state)) where
   same : run list place limit (machine state) .done ≡ r .done

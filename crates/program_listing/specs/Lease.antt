@@ -4,10 +4,10 @@ use Prim.Native.Nat.{ℕ, zero, suc, _+_}
 use mathlib.Core.Bool.{cond}
 use mathlib.Core.List.{List, [], _++_}
 use lib.Dec.{eqb}
-use Rattle.rules.specs.Definition.{Machine, Outcome, ended, paused, stopped, Ending, start, run}
+use Rattle.calculator_rules.specs.Definition.{Machine, Outcome, ended, paused, stopped, Ending, start, run}
 use Rattle.program_digits.specs.Codes.{codes}
 use Rattle.program_digits.specs.Digits.{decimal}
-use Rattle.program_lines.specs.Lines.{named}
+use Rattle.program_reports.specs.Lines.{named}
 use Rattle.program_listing.specs.Listing.{listing, refused-by}
 
 -- how a call stopped

@@ -1,15 +1,15 @@
 // All that the program `lease` writes: it takes a list up at a place under a limit, and again after each pause at the place reported, until it ends or is refused.
 ghost use mathlib.Core.Path.{_≡_};
-ghost use Rattle.rules.specs.Definition.{start};
-ghost use Rattle.limits.specs.Outcome.{outcome-of};
+ghost use Rattle.calculator_rules.specs.Definition.{start};
+ghost use Rattle.calculator_limits.specs.Outcome.{outcome-of};
 ghost use Rattle.program_digits.specs.Put.{Wrote, Filled};
 ghost use Rattle.program_listing.specs.Lease.{stop, call-line, calls, lease-text};
 use crate::listing::put_listing;
 use calculator::run::Outcome;
 use calculator::run::run;
+use calculator_state::State;
 use program_digits::put;
 use program_digits::put_number;
-use state::State;
 
 fn put_stop(out: &mut [u8], at: usize, outcome: Outcome) -> usize
     ensures { λ r. ⌜ Wrote (now (out .entry)) at (stop (outcome-of outcome)) (now (out .exit)) r ⌝ }

@@ -2,25 +2,25 @@
 ghost use mathlib.Core.Path.{_≡_};
 ghost use mathlib.Core.List.{_++_, map};
 ghost use Rattle.standard.specs.Lanes;
-ghost use Rattle.scalar.specs.Scalar.{kind-of, bits-of};
+ghost use Rattle.calculator_scalar.specs.Scalar.{kind-of, bits-of};
 ghost use Rattle.simd.specs.Number.{number};
-ghost use Rattle.state.specs.State.{machine};
-ghost use Rattle.limits.specs.Outcome.{outcome-of};
+ghost use Rattle.calculator_state.specs.State.{machine};
+ghost use Rattle.calculator_limits.specs.Outcome.{outcome-of};
 ghost use Rattle.program_digits.specs.Codes.{codes};
 ghost use Rattle.program_digits.specs.Digits.{hex, hex-bytes};
 ghost use Rattle.program_digits.specs.Put.{Wrote, Filled};
 ghost use Rattle.program_listing.specs.Listing.{nonzero-line, register-line, register-lines, scalar-line, listing, refused-by, lanes-text};
 use calculator::run::Outcome;
 use calculator::run::run;
+use calculator_scalar::Scalar;
+use calculator_state::State;
 use program_digits::put;
 use program_digits::put_count;
 use program_digits::put_hex_bytes;
 use program_digits::put_hex8;
 use program_digits::put_hex16;
 use program_digits::put_two_decimals;
-use scalar::Scalar;
 use simd::V128;
-use state::State;
 
 // The eight bytes of a half, low byte first.
 fn put_half(out: &mut [u8], at: usize, half: u64) -> usize

@@ -39,7 +39,7 @@ at f xs t k h = rw (zero-add k) at (from f xs 0 t k h)
 abbrev pub odd : ℕ → Bool
 odd c = newline c || (blank c || (eqb c 35 || eqb c 59))
 
--- a text is of at most 35 plain characters; it is empty, or found at its own place and not the word `step`
+-- a text is of at most 35 plain characters; it is empty, or found at its own place and not the word `calculator_step`
 abbrev own : ℕ → List ℕ → Bool
 own k [] = true
 own k (c ∷ cs) = eqb (place (map codes names) (c ∷ cs)) k && not (same (c ∷ cs) (codes "step"))

@@ -12,7 +12,7 @@ use Rattle.program_digits.specs.Digits.{digits, decimal}
 use Rattle.program_digits.specs.Put.{written, Wrote}
 use Rattle.program_digits.proofs.Laws.{length-digits}
 use Rattle.program_digits.proofs.Puts.{then, pasted, said-as}
-use Rattle.meetings.specs.Meetings.{Meeting, met}
+use Rattle.capture_meetings.specs.Meetings.{Meeting, met}
 use Rattle.program_scan.specs.Lines.{line, lines}
 use Rattle.program_scan.specs.Pen.{little, Digits, Ready, told, tolds, all-told}
 use Rattle.program_scan.proofs.Numbers.{ten, decimal-is, front-and-last, one-digit}

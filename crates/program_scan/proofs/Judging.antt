@@ -9,12 +9,12 @@ use native.Mathlib.Omega.{arith}
 use borrow.Author.Tests.{lt-ltb, le-ltb, leb-true, leb-false}
 use lib.Dec.{leb}
 use lib.ListN.{length, getD}
-use Rattle.windows.specs.Definition.{bits, mark, window, distance}
-use Rattle.windows.proofs.Distance.{window-le}
-use Rattle.distances.specs.Windows.{after, Laid}
-use Rattle.distances.proofs.Numbers.{at-row}
-use Rattle.meetings.specs.Meetings.{Meeting, met, all-from, shift}
-use Rattle.meetings.proofs.Laws.{parts, shift-append}
+use Rattle.finder_windows.specs.Definition.{bits, mark, window, distance}
+use Rattle.finder_windows.proofs.Distance.{window-le}
+use Rattle.finder_distances.specs.Windows.{after, Laid}
+use Rattle.finder_distances.proofs.Numbers.{at-row}
+use Rattle.capture_meetings.specs.Meetings.{Meeting, met, all-from, shift}
+use Rattle.capture_meetings.proofs.Laws.{parts, shift-append}
 use Rattle.program_scan.specs.Lines.{lines}
 use Rattle.program_scan.specs.Pen.{coded, told, tolds, all-told, Plain}
 

@@ -7,9 +7,9 @@ use native.Mathlib.Omega.{arith}
 use borrow.Author.Tests.{ltb-true, ltb-false}
 use lib.Dec.{ltb}
 use lib.ListN.{length, take, drop}
-use Rattle.windows.specs.Definition.{bits, mark}
-use Rattle.meetings.specs.Meetings.{all-from, shift}
-use Rattle.history.specs.declared.Scan.{Scan}
+use Rattle.finder_windows.specs.Definition.{bits, mark}
+use Rattle.capture_meetings.specs.Meetings.{all-from, shift}
+use Rattle.capture_history.specs.declared.Scan.{Scan}
 use Rattle.program_scan.specs.Lines.{lines}
 use Rattle.program_scan.specs.Pen.{Put-to}
 use Rattle.program_scan.specs.Whole.{edge, Lined}

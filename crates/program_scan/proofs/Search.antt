@@ -8,16 +8,16 @@ use native.Mathlib.Omega.{arith}
 use borrow.Author.Tests.{leb-true, leb-false}
 use lib.Dec.{leb}
 use lib.ListN.{length, drop, length-take}
-use Rattle.windows.specs.Definition.{window, distance, found, refused, stands, first-from}
-use Rattle.meetings.specs.Meetings.{Meeting, met, all-from, shift, first-of}
-use Rattle.meetings.proofs.Laws.{parts, shift-append}
-use Rattle.meetings.proofs.Members.{Met, only}
-use Rattle.meetings.proofs.Theorems.{first-is}
+use Rattle.finder_windows.specs.Definition.{window, distance, found, refused, stands, first-from}
+use Rattle.capture_meetings.specs.Meetings.{Meeting, met, all-from, shift, first-of}
+use Rattle.capture_meetings.proofs.Laws.{parts, shift-append}
+use Rattle.capture_meetings.proofs.Members.{Met, only}
+use Rattle.capture_meetings.proofs.Theorems.{first-is}
 use Rattle.program_digits.specs.Put.{Wrote}
 use Rattle.program_digits.proofs.Puts.{then, said-as, no-more, whole}
 use Rattle.program_scan.specs.Lines.{lines}
 use Rattle.program_scan.proofs.Ink.{lines-append}
-use Rattle.history.proofs.Standing.{Head, head-of}
+use Rattle.capture_history.proofs.Standing.{Head, head-of}
 
 none-before : (xs ys : List Meeting) → xs ++ ys ≡ [] → xs ≡ []
 none-before [] ys e = refl

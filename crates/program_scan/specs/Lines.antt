@@ -3,7 +3,7 @@ use Prim.Native.Nat.{ℕ}
 use mathlib.Core.List.{List, [], _∷_, _++_}
 use Rattle.program_digits.specs.Codes.{codes}
 use Rattle.program_digits.specs.Digits.{decimal}
-use Rattle.meetings.specs.Meetings.{Meeting, met}
+use Rattle.capture_meetings.specs.Meetings.{Meeting, met}
 
 -- "a line `position P distances A B` for each"
 abbrev pub line : Meeting → List ℕ

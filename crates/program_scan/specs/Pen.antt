@@ -8,9 +8,9 @@ use lib.ListN.{length, take, getD}
 use Rattle.program_digits.specs.Codes.{codes}
 use Rattle.program_digits.specs.Digits.{digits}
 use Rattle.program_digits.specs.Put.{Wrote}
-use Rattle.windows.specs.Definition.{bits, mark}
-use Rattle.windows.specs.declared.Answer.{Answer}
-use Rattle.meetings.specs.Meetings.{Meeting, met, all-from, shift}
+use Rattle.finder_windows.specs.Definition.{bits, mark}
+use Rattle.finder_windows.specs.declared.Answer.{Answer}
+use Rattle.capture_meetings.specs.Meetings.{Meeting, met, all-from, shift}
 use Rattle.program_scan.specs.Lines.{lines}
 
 -- the n lowest bytes of a word, the lowest first

@@ -4,9 +4,9 @@ use mathlib.Core.Path.{_≡_}
 use mathlib.Core.Bool.{true, false}
 use mathlib.Core.List.{List, _++_}
 use lib.ListN.{length, take, drop}
-use Rattle.windows.specs.Definition.{bits, mark}
-use Rattle.meetings.specs.Meetings.{Meeting, all-from, shift}
-use Rattle.history.specs.declared.Scan.{Scan}
+use Rattle.finder_windows.specs.Definition.{bits, mark}
+use Rattle.capture_meetings.specs.Meetings.{Meeting, all-from, shift}
+use Rattle.capture_history.specs.declared.Scan.{Scan}
 use Rattle.program_scan.specs.Lines.{lines}
 use Rattle.program_scan.specs.declared.Put.{Put}
 

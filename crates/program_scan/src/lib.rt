@@ -7,15 +7,15 @@ ghost use lib.ListN.{length, take, drop, getD};
 ghost use lib.Seq.{paste};
 ghost use Rattle.program_digits.specs.Digits.{digits};
 ghost use Rattle.program_digits.specs.Put.{Wrote};
-ghost use Rattle.meetings.specs.Meetings.{met, all-from, shift};
-ghost use Rattle.windows.specs.Definition.{bits, mark};
+ghost use Rattle.capture_meetings.specs.Meetings.{met, all-from, shift};
+ghost use Rattle.finder_windows.specs.Definition.{bits, mark};
 ghost use Rattle.program_scan.specs.Lines.{line, lines};
 ghost use Rattle.program_scan.specs.Pen.{little, Ready, told, tolds, all-told, Plain, coded, Within, Sought, Put-to};
-ghost use Rattle.columns.specs.Columns.{Columns};
+ghost use Rattle.finder_columns.specs.Columns.{Columns};
 ghost use Rattle.program_scan.specs.Whole.{Lined};
+use capture_history::CAPTURE;
+use capture_history::Scan;
 use finder::Answer;
-use history::CAPTURE;
-use history::Scan;
 
 // More room than the lines of 256 positions may take, and one line.
 const MANY: usize = 11265;
@@ -272,8 +272,8 @@ fn many(
     ensures { λ r. ⌜ r .held ≤ pen .held + 11264 ⌝ }
     ensures { λ r. ⌜ (length (now (first .exit)) ≡ 256) × (length (now (second .exit)) ≡ 256) ⌝ }
 {
-    distances::distances(buffer, at, marker, first);
-    distances::distances(buffer, at + frame, marker, second);
+    finder_distances::distances(buffer, at, marker, first);
+    finder_distances::distances(buffer, at + frame, marker, second);
     judge(first, second, tolerance);
     put_many(block, text, pen, second, number)
 }

@@ -23,7 +23,7 @@ use Rattle.program_forms.proofs.Fits.{Fitting, form-fits}
 use Rattle.program_line.specs.Line.{Line, empty, step, refused, line}
 use Rattle.program_line.specs.Reads.{ReadAs, line-of}
 use Rattle.program_line.specs.declared.Read.{Read}
-use Rattle.rules.specs.Definition.{operation}
+use Rattle.calculator_rules.specs.Definition.{operation}
 use Rattle.program_step.specs.Shown.{field, fields, mark, of-form, plain, whole, says, shown}
 
 -- a byte, with or without a blank before it

@@ -4,7 +4,7 @@ use mathlib.Core.Bool.{Bool, true, false, cond}
 use mathlib.Core.List.{List, [], _∷_, _++_}
 use lib.Dec.{eqb}
 use lib.ListN.{getD}
-use Rattle.rules.specs.Definition.{operation}
+use Rattle.calculator_rules.specs.Definition.{operation}
 use Rattle.program_digits.specs.Codes.{codes}
 use Rattle.program_digits.specs.Digits.{decimal, hex}
 use Rattle.program_words.specs.Cut.{same}
@@ -26,7 +26,7 @@ unfoldable pub fields : Field → ℕ → ℕ → List ℕ → List ℕ
 fields f zero place s = []
 fields f (suc n) place s = field f place (getD s place 0) ++ fields f n (suc place) s
 
--- nothing for 0, `packed` for 1, `packed` and the number for any other
+-- nothing for 0, `packed_half` for 1, `packed_half` and the number for any other
 unfoldable pub mark : ℕ → List ℕ
 unfolding codes
 mark m = cond (eqb m 0) [] (codes " packed" ++ cond (eqb m 1) [] (field a-mark 7 m))

@@ -6,8 +6,8 @@ ghost use Rattle.program_fields.specs.Values.{field-of};
 ghost use Rattle.program_line.specs.Line.{line as the-line};
 ghost use Rattle.program_step.specs.Shown;
 ghost use Rattle.program_step.specs.Shown.{field, fields, mark, plain, whole, shown};
+use calculator_rules::fields;
 use program_fields::Field;
-use rules::fields;
 
 fn put_byte(out: &mut [u8], at: usize, place: usize, b: u8) -> usize
     ensures { λ r. ⌜ Wrote (now (out .entry)) at (field (field-of Field.Byte) place b) (now (out .exit)) r ⌝ }

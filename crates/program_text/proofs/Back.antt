@@ -9,8 +9,8 @@ use borrow.Author.Tests.{lt-ltb, le-leb, eqb-true, eqb-false, leb-true, not-true
 use lib.Dec.{eqb, ltb, leb}
 use lib.ListN.{length, getD, take, drop, set, replicate, length-drop, take-append-drop}
 use lib.Seq.{take-all, take-suc, set-at, length-take-le, getD-drop}
-use Rattle.arguments.specs.Arguments.{digit}
-use Rattle.rules.specs.Definition.{operation, unless, list-refusal}
+use Rattle.program_arguments.specs.Arguments.{digit}
+use Rattle.calculator_rules.specs.Definition.{operation, unless, list-refusal}
 use Rattle.program_digits.specs.Codes.{codes}
 use Rattle.program_digits.specs.Digits.{glyph, digits, places, decimal, hex}
 use Rattle.program_answer.specs.Answer.{output-alone}

@@ -8,9 +8,9 @@ use native.Mathlib.Omega.{arith}
 use borrow.Author.Tests.{lt-ltb, le-leb, eq-eqb, eqb-true, eqb-false, ne-eqb}
 use lib.Dec.{eqb, ltb, leb}
 use lib.ListN.{length, getD, set}
-use Rattle.arguments.specs.Arguments.{Numeral, number, none}
-use Rattle.arguments.specs.Arguments as arguments
-use Rattle.rules.specs.Definition.{operation}
+use Rattle.program_arguments.specs.Arguments.{Numeral, number, none}
+use Rattle.program_arguments.specs.Arguments as arguments
+use Rattle.calculator_rules.specs.Definition.{operation}
 use Rattle.program_digits.specs.Codes.{codes}
 use Rattle.program_digits.specs.Digits.{digits, places, decimal}
 use Rattle.program_words.specs.Cut.{blank, before, onward, skip, word, after, same}

@@ -8,7 +8,7 @@ use native.Mathlib.Omega.{arith}
 use borrow.Author.Tests.{eqb-true, eqb-false}
 use lib.Dec.{eqb, ltb, leb}
 use lib.ListN.{set}
-use Rattle.arguments.specs.Arguments.{Numeral, number, none, digit, decimal}
+use Rattle.program_arguments.specs.Arguments.{Numeral, number, none, digit, decimal}
 use Rattle.program_digits.specs.Codes.{codes}
 use Rattle.program_words.specs.Cut.{blank, solid, before, onward, skip, word, after, statement, same}
 use Rattle.program_names.specs.Names as names

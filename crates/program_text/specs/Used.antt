@@ -4,7 +4,7 @@ use mathlib.Core.Bool.{cond}
 use mathlib.Core.List.{List}
 use lib.Dec.{eqb}
 use lib.ListN.{getD, set}
-use Rattle.rules.specs.Definition.{operation}
+use Rattle.calculator_rules.specs.Definition.{operation}
 use Rattle.program_forms.specs.Forms.{Form, form}
 use Rattle.program_line.specs.Line.{of-operation}
 

@@ -16,7 +16,7 @@ fn write_recording(list: &[u8]) {
         return;
     }
     let mut said = [0u8; 32];
-    let n = program_lines::record_said(recorded, &mut said);
+    let n = program_reports::record_said(recorded, &mut said);
     io::write_all(STDERR_FILENO, &said[..n]);
 }
 
@@ -30,7 +30,7 @@ fn main() {
     }
     // "list length not a multiple of 32, or above 8,192": one byte above decides, so no more than that is read.
     let mut list = [0u8; 8193];
-    let reading = input::read_to(&mut list);
+    let reading = program_input::read_to(&mut list);
     if reading.failed {
         os::fail(b"record: standard input");
         return;

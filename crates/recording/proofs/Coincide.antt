@@ -2,8 +2,8 @@
 use mathlib.Core.Path.{_≡_, refl, ap}
 use Prim.Native.Nat.{ℕ}
 use native.Mathlib.Omega.{arith}
-use Rattle.records.specs.Answer.{recorded-of}
-use Rattle.records.specs.declared.Recorded.{Recorded}
+use Rattle.recording_rules.specs.Answer.{recorded-of}
+use Rattle.recording_rules.specs.declared.Recorded.{Recorded}
 
 pub recordings-coincide : (a b : Recorded) → recorded-of a ≡ recorded-of b → a ≡ b
 recordings-coincide (Recorded.Bytes m) (Recorded.Bytes n) e = ap Recorded.Bytes (let z : m ≡ n = cc in z)

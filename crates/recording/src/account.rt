@@ -6,21 +6,21 @@ ghost use lib.Dec.{eqb};
 ghost use lib.ListN.{getD};
 ghost use Rattle.standard.specs.Instruction.{instruction};
 ghost use Rattle.standard.specs.Refusal.{given, refused};
-ghost use Rattle.rules.specs.Definition;
+ghost use Rattle.calculator_rules.specs.Definition;
 ghost use Rattle.simd.specs.Number.{number};
-ghost use Rattle.state.specs.State.{vectors, held};
-ghost use Rattle.trace.specs.Definition.{trace};
-ghost use Rattle.records.specs.Definition.{trace-of, next};
-use decision::decide;
-use numbering::gives_vector;
-use records::kind_byte;
-use rules::fields::byte;
-use rules::fields::operation;
-use scalar::Scalar;
+ghost use Rattle.calculator_state.specs.State.{vectors, held};
+ghost use Rattle.recording_fields.specs.Definition.{trace};
+ghost use Rattle.recording_rules.specs.Definition.{trace-of, next};
+use calculator_numbering::gives_vector;
+use calculator_rules::fields::byte;
+use calculator_rules::fields::operation;
+use calculator_scalar::Scalar;
+use calculator_shape::decide;
+use calculator_state::kind;
+use calculator_state::registers::get;
+use calculator_step::step;
+use recording_rules::kind_byte;
 use simd::V128;
-use state::kind;
-use state::registers::get;
-use step::step;
 
 // The scalar after a step, and its trace: the halves of the vector written, the number of the refusal, the scalar's kind and bits.
 pub struct Left {

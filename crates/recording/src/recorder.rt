@@ -2,15 +2,15 @@
 ghost use mathlib.Core.Path.{_≡_};
 ghost use Prim.Native.Nat.{_*_, _≤_};
 ghost use lib.ListN.{length, drop};
-ghost use Rattle.rules.specs.Definition.{list-refusal};
-ghost use Rattle.packing.specs.Definition.{blocks-for, fits, standing};
-ghost use Rattle.records.specs.Definition.{records-of, recorded};
-ghost use Rattle.records.specs.Answer.{recorded-of};
+ghost use Rattle.calculator_rules.specs.Definition.{list-refusal};
+ghost use Rattle.recording_packing.specs.Definition.{blocks-for, fits, standing};
+ghost use Rattle.recording_rules.specs.Definition.{records-of, recorded};
+ghost use Rattle.recording_rules.specs.Answer.{recorded-of};
 use crate::account::account;
-use packing::has_room;
-pub use records::Recorded;
-use scalar::Scalar;
-use step::step;
+use calculator_scalar::Scalar;
+use calculator_step::step;
+use recording_packing::has_room;
+pub use recording_rules::Recorded;
 
 // How many records a list of whole steps leaves. A refused step is the last.
 fn count(list: &[u8]) -> usize
@@ -68,7 +68,7 @@ fn record_steps(list: &[u8], out: &mut [u8]) -> usize
         let refused = left.refused;
         let start = 512 * (at / 7) + 64 * (at % 7) + 4;
         let end = start + 64;
-        trace::put(
+        recording_fields::put(
             &mut out[start..end],
             s,
             left.lo,
@@ -90,7 +90,7 @@ fn record_steps(list: &[u8], out: &mut [u8]) -> usize
 pub fn record(list: &[u8], out: &mut [u8]) -> Recorded
     ensures { λ r. ⌜ (recorded-of r, now (out .exit)) ≡ recorded (now (list .entry)) (now (out .entry)) ⌝ }
 {
-    let refused = limits::judge(list.len(), 0, 256);
+    let refused = calculator_limits::judge(list.len(), 0, 256);
     if refused != 0 {
         return Recorded::Refused(refused);
     }
@@ -101,6 +101,6 @@ pub fn record(list: &[u8], out: &mut [u8]) -> Recorded
         return Recorded::Short;
     }
     let n = record_steps(list, out);
-    packing::seal(out, n);
+    recording_packing::seal(out, n);
     Recorded::Bytes(512 * ((n + 6) / 7))
 }

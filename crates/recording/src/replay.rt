@@ -1,16 +1,16 @@
 // A replay: every record beside what the definition gives for its step.
 ghost use mathlib.Core.Path.{_≡_};
 ghost use Prim.Native.Nat.{_*_, _≤_};
-ghost use Rattle.rules.specs.Definition.{start};
-ghost use Rattle.layout.specs.Definition.{blocks};
-ghost use Rattle.trace_compare.specs.Answer.{answer-of};
-ghost use Rattle.records.specs.Definition.{replay-from, replay};
+ghost use Rattle.calculator_rules.specs.Definition.{start};
+ghost use Rattle.recording_layout.specs.Definition.{blocks};
+ghost use Rattle.recording_compare.specs.Answer.{answer-of};
+ghost use Rattle.recording_rules.specs.Definition.{replay-from, replay};
 use crate::account::account;
-use layout_judge::Judged;
-use layout_judge::judge;
-use scalar::Scalar;
-use trace_compare::Answer;
-use trace_compare::compare;
+use calculator_scalar::Scalar;
+use recording_compare::Answer;
+use recording_compare::compare;
+use recording_layout_judge::Judged;
+use recording_layout_judge::judge;
 
 // The first records of a file, seven to a block, from zero registers and i32 0.
 fn replay_records(file: &[u8], n: usize) -> Answer

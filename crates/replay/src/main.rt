@@ -1,8 +1,8 @@
 // The program `replay` (document 02, order 8): reads a recording from standard input, and writes whether every record is what the calculator's definition gives for
 // its step, or which is the first that is not, counted from 1, or why the file is no recording.
-ghost use Rattle.records.specs.Definition as records;
+ghost use Rattle.recording_rules.specs.Definition as records;
 ghost use Rattle.program_digits.specs.Put.{Filled};
-ghost use Rattle.program_lines.specs.Lines.{replay};
+ghost use Rattle.program_reports.specs.Lines.{replay};
 use libc::STDERR_FILENO;
 use libc::STDOUT_FILENO;
 
@@ -10,7 +10,7 @@ use libc::STDOUT_FILENO;
 fn answer(file: &[u8], out: &mut [u8; 32]) -> usize
     ensures { λ r. ⌜ Filled (now (out .entry)) (replay (records.replay (now (file .entry)))) (now (out .exit)) r ⌝ }
 {
-    program_lines::replay(recording::replay::replay(file), out)
+    program_reports::replay(recording::replay::replay(file), out)
 }
 
 fn main() {
@@ -23,7 +23,7 @@ fn main() {
     }
     // "above 37 blocks": one byte above decides, so no more than that is read.
     let mut file = [0u8; 18945];
-    let reading = input::read_to(&mut file);
+    let reading = program_input::read_to(&mut file);
     if reading.failed {
         os::fail(b"replay: standard input");
         return;

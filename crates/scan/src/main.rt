@@ -5,11 +5,11 @@ ghost use Prim.Native.Nat.{_≤_};
 ghost use mathlib.Core.Path.{_≡_};
 ghost use lib.ListN.{length};
 ghost use Rattle.io.specs.Counts.{Counts};
-use arguments::Numeral;
+use capture_scanning::Scan;
 use libc::STDERR_FILENO;
 use libc::STDIN_FILENO;
 use libc::STDOUT_FILENO;
-use scanning::Scan;
+use program_arguments::Numeral;
 
 // How many bytes a capture may have.
 const CAPTURE: u64 = 1152921504606846976;
@@ -70,13 +70,13 @@ fn report(n: u8) {
 fn decimal_at(i: usize) -> Numeral {
     let mut text = [0u8; 131072];
     let n = os::arg(i, &mut text);
-    arguments::decimal(&text[..n])
+    program_arguments::decimal(&text[..n])
 }
 
 fn marker_at(i: usize) -> Numeral {
     let mut text = [0u8; 8];
     let n = os::arg(i, &mut text);
-    arguments::eight_hex_digits(&text[..n])
+    program_arguments::eight_hex_digits(&text[..n])
 }
 
 // Decimal digits alone, at least one, of a number of bytes that a capture may have.
@@ -250,7 +250,7 @@ fn take<'a>(
     ensures { λ r. ⌜ r .bytes ≤ length (now (piece .entry)) ⌝ }
 {
     let scan = course.scan;
-    let fed = scanning::feed(window, scan, piece);
+    let fed = capture_scanning::feed(window, scan, piece);
     let used = fed.used;
     let next = fed.scan;
     let course = Course {
@@ -371,7 +371,7 @@ fn last(course: Course, task: Task) -> u8 {
     let before = scan.before;
     let filled = scan.filled as u64;
     let from = task.from;
-    let n = scanning::end(scan, task.tolerance, task.length, course.met);
+    let n = capture_scanning::end(scan, task.tolerance, task.length, course.met);
     if n != 10 {
         return n;
     }
@@ -400,7 +400,7 @@ fn finish(course: Course, task: Task) {
 
 fn begun() -> Course {
     Course {
-        scan: scanning::start(),
+        scan: capture_scanning::start(),
         met: false,
         state: GOES_ON,
     }
@@ -414,12 +414,12 @@ fn main() {
         );
         return;
     };
-    let refused = scanning::refusal(task.tolerance, task.length);
+    let refused = capture_scanning::refusal(task.tolerance, task.length);
     if refused != 0 {
         report(refused);
         return;
     }
-    let table = columns::columns(task.marker, task.tolerance);
+    let table = finder_columns::columns(task.marker, task.tolerance);
     let mut window = [0u8; 139264];
     let mut piece = [0u8; 65536];
     let mut out = [0u8; 65536];

@@ -11,7 +11,7 @@ use mir.Facts.{toZ-ofZ}
 use Rattle.standard.specs.Integer.{modulo}
 use Rattle.standard.specs.Refusal.{Answer, given, refused}
 use Rattle.standard.proofs.Digits.{low-digit, rest-digits}
-use Rattle.lane.proofs.Signed.{modulo-is}
+use Rattle.lane_integer.proofs.Signed.{modulo-is}
 use Rattle.simd.specs.declared.V128.{V128}
 use Rattle.simd.specs.declared.answer.VectorAnswer.{VectorAnswer}
 use Rattle.simd.specs.declared.answer.I32Answer.{I32Answer}

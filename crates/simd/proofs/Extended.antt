@@ -7,7 +7,7 @@ use Rattle.standard.specs.Lanes.{digits, lanes, binary}
 use Rattle.standard.specs.Integer.{imul}
 use Rattle.standard.specs.Vector.{extend, extmul}
 use Rattle.standard.proofs.Widths.{parts, products, extend-u-lt, extend-s-lt, narrow-u-lt, narrow-s-lt}
-use Rattle.width_lane.specs.Widen.{extends, narrows, half-of}
+use Rattle.lane_width.specs.Widen.{extends, narrows, half-of}
 use Rattle.simd.specs.declared.V128.{V128}
 use Rattle.simd.specs.Number.{number}
 

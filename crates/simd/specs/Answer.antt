@@ -2,7 +2,7 @@
 use Prim.Native.Nat.{ℕ}
 use Rattle.standard.specs.Integer.{modulo}
 use Rattle.standard.specs.Refusal.{Answer, given, refused}
-use Rattle.float_lane.specs.Scalar.{f32-bits, f64-bits}
+use Rattle.lane_float.specs.Scalar.{f32-bits, f64-bits}
 use Rattle.simd.specs.Number.{number}
 use Rattle.simd.specs.declared.answer.VectorAnswer.{VectorAnswer}
 use Rattle.simd.specs.declared.answer.I32Answer.{I32Answer}

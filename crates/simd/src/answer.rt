@@ -1,7 +1,7 @@
 // What an operation that can refuse hands back: the value, or document 01's number.
 use crate::V128;
-use float_lane::F32;
-use float_lane::F64;
+use lane_float::F32;
+use lane_float::F64;
 
 // Refusal 4: "lane not below the lane count".
 pub const LANE: u8 = 4;

@@ -4,7 +4,7 @@ ghost use Rattle.standard.specs.Integer.{iadd, isub, imul, ineg, iabs, ipopcnt,
 ghost use Rattle.standard.specs.Lanes.{unary, binary};
 ghost use Rattle.simd.specs.Number.{number};
 use crate::V128;
-use lanewise::*;
+use array_lanewise::*;
 
 impl V128 {
     pub fn i64x2_add(self, rhs: V128) -> V128

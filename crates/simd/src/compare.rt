@@ -4,7 +4,7 @@ ghost use Rattle.standard.specs.Integer.{ieq, ine, ilt-u, igt-u, ile-u, ige-u, 
 ghost use Rattle.standard.specs.Lanes.{binary};
 ghost use Rattle.simd.specs.Number.{number};
 use crate::V128;
-use lanewise::*;
+use array_lanewise::*;
 
 impl V128 {
     pub fn i8x16_eq(self, rhs: V128) -> V128

@@ -5,38 +5,38 @@ ghost use lib.Ieee.{binary32, binary64};
 ghost use Rattle.standard.specs.Convert.{fceil, ffloor, ftrunc, fnearest, demote, promote, convert-u, convert-s, trunc-sat-u, trunc-sat-s};
 ghost use Rattle.standard.specs.Lanes.{unary};
 ghost use Rattle.standard.specs.Vector.{convert-low, convert-zero};
-ghost use Rattle.reformat.specs.Reformat.{format32-of, format64-of, low-of, zero-of};
+ghost use Rattle.array_convert.specs.Reformat.{format32-of, format64-of, low-of, zero-of};
 ghost use Rattle.simd.specs.Number.{number};
 use crate::V128;
-use reformat::*;
+use array_convert::*;
 
 impl V128 {
     fn format32(self, op: u8) -> V128
         ensures { λ r. ⌜ number r ≡ unary 32 (format32-of op) (number self) ⌝ }
     {
-        V128::join32(reformat::each32(op, self.lanes32()))
+        V128::join32(array_convert::each32(op, self.lanes32()))
     }
 
     fn format64(self, op: u8) -> V128
         ensures { λ r. ⌜ number r ≡ unary 64 (format64-of op) (number self) ⌝ }
     {
         V128 {
-            lo: reformat::lane64(op, self.lo),
-            hi: reformat::lane64(op, self.hi),
+            lo: array_convert::lane64(op, self.lo),
+            hi: array_convert::lane64(op, self.hi),
         }
     }
 
     fn format_low(self, op: u8) -> V128
         ensures { λ r. ⌜ number r ≡ convert-low (low-of op) (number self) ⌝ }
     {
-        let a = reformat::low(op, self.lanes32());
+        let a = array_convert::low(op, self.lanes32());
         V128 { lo: a[0], hi: a[1] }
     }
 
     fn format_zero(self, op: u8) -> V128
         ensures { λ r. ⌜ number r ≡ convert-zero (zero-of op) (number self) ⌝ }
     {
-        let a = reformat::zero(op, [self.lo, self.hi]);
+        let a = array_convert::zero(op, [self.lo, self.hi]);
         V128 { lo: a[0], hi: a[1] }
     }
 
@@ -91,25 +91,25 @@ impl V128 {
     pub fn f32x4_convert_i32x4_s(self) -> V128
         ensures { λ r. ⌜ number r ≡ unary 32 (convert-s binary32) (number self) ⌝ }
     {
-        V128::join32(float_narrow::convert_s32x4(self.lanes32()))
+        V128::join32(lane_float_narrow::convert_s32x4(self.lanes32()))
     }
 
     pub fn f32x4_convert_i32x4_u(self) -> V128
         ensures { λ r. ⌜ number r ≡ unary 32 (convert-u binary32) (number self) ⌝ }
     {
-        V128::join32(float_narrow::convert_u32x4(self.lanes32()))
+        V128::join32(lane_float_narrow::convert_u32x4(self.lanes32()))
     }
 
     pub fn i32x4_trunc_sat_f32x4_s(self) -> V128
         ensures { λ r. ⌜ number r ≡ unary 32 (trunc-sat-s binary32) (number self) ⌝ }
     {
-        V128::join32(float_saturate::trunc_sat_s32x4(self.lanes32()))
+        V128::join32(lane_float_saturate::trunc_sat_s32x4(self.lanes32()))
     }
 
     pub fn i32x4_trunc_sat_f32x4_u(self) -> V128
         ensures { λ r. ⌜ number r ≡ unary 32 (trunc-sat-u binary32) (number self) ⌝ }
     {
-        V128::join32(float_saturate::trunc_sat_u32x4(self.lanes32()))
+        V128::join32(lane_float_saturate::trunc_sat_u32x4(self.lanes32()))
     }
 
     pub fn f64x2_convert_low_i32x4_s(self) -> V128

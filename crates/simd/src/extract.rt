@@ -12,12 +12,12 @@ use crate::answer::I32Answer;
 use crate::answer::I64Answer;
 use crate::answer::LANE;
 use crate::answer::U32Answer;
-use float_lane::F32;
-use float_lane::F64;
-use lane::reinterpret::signed32;
-use lane::reinterpret::signed64;
-use wide_lane::wide8;
-use wide_lane::wide16;
+use lane_float::F32;
+use lane_float::F64;
+use lane_integer::reinterpret::signed32;
+use lane_integer::reinterpret::signed64;
+use lane_wide::wide8;
+use lane_wide::wide16;
 
 impl V128 {
     pub fn i64x2_extract_lane(self, lane: u8) -> I64Answer

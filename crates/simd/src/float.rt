@@ -5,8 +5,8 @@ ghost use Rattle.standard.specs.Float.{feq, fne, flt, fgt, fle, fge, fneg, fabs
 ghost use Rattle.standard.specs.Lanes.{unary, binary};
 ghost use Rattle.simd.specs.Number.{number};
 use crate::V128;
-use float_arithmetic::choose::*;
-use lanewise_float::*;
+use array_lanewise_float::*;
+use lane_float_arithmetic::choose::*;
 
 impl V128 {
     pub fn f32x4_eq(self, rhs: V128) -> V128

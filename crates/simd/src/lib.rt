@@ -22,9 +22,9 @@ ghost use lib.Ieee.{binary32, binary64};
 ghost use lib.ListN.{take, replicate};
 ghost use Rattle.standard.specs.Lanes.{digits, joined, lanes, unary, binary, splat, extract, replace};
 ghost use Rattle.standard.specs.Refusal.{at-lane};
-ghost use Rattle.float_arithmetic.specs.Choose.{arithmetic-of};
-ghost use Rattle.lanewise.specs.Lanewise.{unaries, unaries8, unaries16, unaries32, binaries, binaries16, binaries32, unary-of, binary-of};
-ghost use Rattle.lanewise_float.specs.LanewiseFloat.{float-unary-of, float-binary-of};
+ghost use Rattle.lane_float_arithmetic.specs.Choose.{arithmetic-of};
+ghost use Rattle.array_lanewise.specs.Lanewise.{unaries, unaries8, unaries16, unaries32, binaries, binaries16, binaries32, unary-of, binary-of};
+ghost use Rattle.array_lanewise_float.specs.LanewiseFloat.{float-unary-of, float-binary-of};
 ghost use Rattle.simd.specs.Number.{number};
 ghost use Rattle.simd.specs.Answer.{vector-answer};
 use answer::LANE;
@@ -189,7 +189,7 @@ impl V128 {
     {
         let mut a = self.places8();
         for i in 0..64 {
-            a[i] = lanewise::unary8(op, count, a[i]);
+            a[i] = array_lanewise::unary8(op, count, a[i]);
         }
         V128::from_places8(a)
     }
@@ -200,7 +200,7 @@ impl V128 {
         let mut a = self.places8();
         let b = rhs.places8();
         for i in 0..64 {
-            a[i] = lanewise::binary8(op, a[i], b[i]);
+            a[i] = array_lanewise::binary8(op, a[i], b[i]);
         }
         V128::from_places8(a)
     }
@@ -246,7 +246,7 @@ impl V128 {
     {
         let mut a = self.places16();
         for i in 0..64 {
-            a[i] = lanewise::unary16(op, count, a[i]);
+            a[i] = array_lanewise::unary16(op, count, a[i]);
         }
         V128::from_places16(a)
     }
@@ -257,7 +257,7 @@ impl V128 {
         let mut a = self.places16();
         let b = rhs.places16();
         for i in 0..64 {
-            a[i] = lanewise::binary16(op, a[i], b[i]);
+            a[i] = array_lanewise::binary16(op, a[i], b[i]);
         }
         V128::from_places16(a)
     }
@@ -303,7 +303,7 @@ impl V128 {
     {
         let mut a = self.places32();
         for i in 0..64 {
-            a[i] = lanewise::unary32(op, count, a[i]);
+            a[i] = array_lanewise::unary32(op, count, a[i]);
         }
         V128::from_places32(a)
     }
@@ -314,7 +314,7 @@ impl V128 {
         let mut a = self.places32();
         let b = rhs.places32();
         for i in 0..64 {
-            a[i] = lanewise::binary32(op, a[i], b[i]);
+            a[i] = array_lanewise::binary32(op, a[i], b[i]);
         }
         V128::from_places32(a)
     }
@@ -324,7 +324,7 @@ impl V128 {
     {
         let mut a = self.places32();
         for i in 0..64 {
-            a[i] = lanewise_float::float_unary32(op, a[i]);
+            a[i] = array_lanewise_float::float_unary32(op, a[i]);
         }
         V128::from_places32(a)
     }
@@ -335,7 +335,7 @@ impl V128 {
         let mut a = self.places32();
         let b = rhs.places32();
         for i in 0..64 {
-            a[i] = lanewise_float::float_binary32(op, a[i], b[i]);
+            a[i] = array_lanewise_float::float_binary32(op, a[i], b[i]);
         }
         V128::from_places32(a)
     }
@@ -347,7 +347,7 @@ impl V128 {
         let mut a = self.places32();
         let b = rhs.places32();
         for i in 0..32 {
-            a[i] = float_arithmetic::choose::arithmetic32(op, a[i], b[i]);
+            a[i] = lane_float_arithmetic::choose::arithmetic32(op, a[i], b[i]);
         }
         V128::from_places32(a)
     }
@@ -480,8 +480,8 @@ impl V128 {
         ensures { λ r. ⌜ number r ≡ unary 64 (unary-of (unaries 64 count) op) (number self) ⌝ }
     {
         V128 {
-            lo: lanewise::unary64(op, count, self.lo),
-            hi: lanewise::unary64(op, count, self.hi),
+            lo: array_lanewise::unary64(op, count, self.lo),
+            hi: array_lanewise::unary64(op, count, self.hi),
         }
     }
 
@@ -489,8 +489,8 @@ impl V128 {
         ensures { λ r. ⌜ number r ≡ binary 64 (binary-of (take 9 (binaries 64)) op) (number self) (number rhs) ⌝ }
     {
         V128 {
-            lo: lanewise::binary64(op, self.lo, rhs.lo),
-            hi: lanewise::binary64(op, self.hi, rhs.hi),
+            lo: array_lanewise::binary64(op, self.lo, rhs.lo),
+            hi: array_lanewise::binary64(op, self.hi, rhs.hi),
         }
     }
 
@@ -498,8 +498,8 @@ impl V128 {
         ensures { λ r. ⌜ number r ≡ unary 64 (float-unary-of binary64 op) (number self) ⌝ }
     {
         V128 {
-            lo: lanewise_float::float_unary64(op, self.lo),
-            hi: lanewise_float::float_unary64(op, self.hi),
+            lo: array_lanewise_float::float_unary64(op, self.lo),
+            hi: array_lanewise_float::float_unary64(op, self.hi),
         }
     }
 
@@ -507,15 +507,15 @@ impl V128 {
         ensures { λ r. ⌜ number r ≡ binary 64 (float-binary-of binary64 op) (number self) (number rhs) ⌝ }
     {
         V128 {
-            lo: lanewise_float::float_binary64(op, self.lo, rhs.lo),
-            hi: lanewise_float::float_binary64(op, self.hi, rhs.hi),
+            lo: array_lanewise_float::float_binary64(op, self.lo, rhs.lo),
+            hi: array_lanewise_float::float_binary64(op, self.hi, rhs.hi),
         }
     }
 
     fn arithmetic64(self, rhs: V128, op: u8) -> V128
         ensures { λ r. ⌜ number r ≡ binary 64 (arithmetic-of binary64 op) (number self) (number rhs) ⌝ }
     {
-        let r = float_arithmetic::choose::pairs64(op, self.lo, self.hi, rhs.lo, rhs.hi);
+        let r = lane_float_arithmetic::choose::pairs64(op, self.lo, self.hi, rhs.lo, rhs.hi);
         V128 { lo: r[0], hi: r[1] }
     }
 }

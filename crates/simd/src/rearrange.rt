@@ -7,10 +7,10 @@ ghost use Rattle.simd.specs.Number.{number};
 use crate::V128;
 use crate::answer::INDEX;
 use crate::answer::VectorAnswer;
-use reorder::all_legal;
-use reorder::beside;
-use reorder::picked;
-use reorder::swizzled;
+use array_reorder::all_legal;
+use array_reorder::beside;
+use array_reorder::picked;
+use array_reorder::swizzled;
 
 impl V128 {
     pub fn i8x16_swizzle(self, s: V128) -> V128

@@ -4,10 +4,10 @@ ghost use mathlib.Core.Bool.{cond};
 ghost use Rattle.standard.specs.Vector.{any-true, all-true, bitmask};
 ghost use Rattle.simd.specs.Number.{number};
 use crate::V128;
-use lane::compare::sign8;
-use lane::compare::sign16;
-use lane::compare::sign32;
-use lane::compare::sign64;
+use lane_integer::compare::sign8;
+use lane_integer::compare::sign16;
+use lane_integer::compare::sign32;
+use lane_integer::compare::sign64;
 
 impl V128 {
     // The Rust's test of the number `as_u128` becomes one of two halves.

@@ -3,17 +3,17 @@ ghost use mathlib.Core.Path.{_≡_};
 ghost use Rattle.standard.specs.Integer.{modulo};
 ghost use Rattle.standard.specs.Lanes.{replace};
 ghost use Rattle.standard.specs.Refusal.{at-lane};
-ghost use Rattle.float_lane.specs.Scalar.{f32-bits, f64-bits};
+ghost use Rattle.lane_float.specs.Scalar.{f32-bits, f64-bits};
 ghost use Rattle.simd.specs.Answer.{vector-answer};
 ghost use Rattle.simd.specs.Number.{number};
 use crate::V128;
 use crate::answer::VectorAnswer;
-use float_lane::F32;
-use float_lane::F64;
-use lane::reinterpret::unsigned8;
-use lane::reinterpret::unsigned16;
-use lane::reinterpret::unsigned32;
-use lane::reinterpret::unsigned64;
+use lane_float::F32;
+use lane_float::F64;
+use lane_integer::reinterpret::unsigned8;
+use lane_integer::reinterpret::unsigned16;
+use lane_integer::reinterpret::unsigned32;
+use lane_integer::reinterpret::unsigned64;
 
 impl V128 {
     pub fn i64x2_replace_lane(self, lane: u8, item: i64) -> VectorAnswer

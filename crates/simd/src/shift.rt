@@ -4,7 +4,7 @@ ghost use Rattle.standard.specs.Integer.{ishl, ishr-u, ishr-s};
 ghost use Rattle.standard.specs.Lanes.{unary};
 ghost use Rattle.simd.specs.Number.{number};
 use crate::V128;
-use lanewise::*;
+use array_lanewise::*;
 
 impl V128 {
     pub fn i8x16_shl(self, count: u32) -> V128

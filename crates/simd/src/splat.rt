@@ -2,15 +2,15 @@
 ghost use mathlib.Core.Path.{_≡_};
 ghost use Rattle.standard.specs.Integer.{modulo};
 ghost use Rattle.standard.specs.Lanes.{splat};
-ghost use Rattle.float_lane.specs.Scalar.{f32-bits, f64-bits};
+ghost use Rattle.lane_float.specs.Scalar.{f32-bits, f64-bits};
 ghost use Rattle.simd.specs.Number.{number};
 use crate::V128;
-use float_lane::F32;
-use float_lane::F64;
-use lane::reinterpret::unsigned8;
-use lane::reinterpret::unsigned16;
-use lane::reinterpret::unsigned32;
-use lane::reinterpret::unsigned64;
+use lane_float::F32;
+use lane_float::F64;
+use lane_integer::reinterpret::unsigned8;
+use lane_integer::reinterpret::unsigned16;
+use lane_integer::reinterpret::unsigned32;
+use lane_integer::reinterpret::unsigned64;
 
 impl V128 {
     pub fn i64x2_splat(value: i64) -> V128

@@ -5,18 +5,18 @@ ghost use mathlib.Core.List.{map};
 ghost use Rattle.standard.specs.Integer.{extend-u, extend-s, narrow-u, narrow-s};
 ghost use Rattle.standard.specs.Lanes.{joined, lanes, lowHalf, highHalf};
 ghost use Rattle.standard.specs.Vector.{extend, extmul, extadd-pairwise, dot, narrow, widen};
-ghost use Rattle.width_lane.specs.Widen.{extends, narrows, half-of};
+ghost use Rattle.lane_width.specs.Widen.{extends, narrows, half-of};
 ghost use Rattle.simd.specs.Number.{number};
 use crate::V128;
-use lanewise::DOT;
-use lanewise::EXTADD_S;
-use lanewise::EXTADD_U;
-use width_lane::extend8;
-use width_lane::extend16;
-use width_lane::extend32;
-use width_lane::half;
-use width_lane::narrow16;
-use width_lane::narrow32;
+use array_lanewise::DOT;
+use array_lanewise::EXTADD_S;
+use array_lanewise::EXTADD_U;
+use lane_width::extend8;
+use lane_width::extend16;
+use lane_width::extend32;
+use lane_width::half;
+use lane_width::narrow16;
+use lane_width::narrow32;
 
 impl V128 {
     fn widen8(bits: u64, signed: bool) -> V128
@@ -306,7 +306,7 @@ impl V128 {
         let mut a = self.places32();
         let b = rhs.places32();
         for i in 0..32 {
-            a[i] = lanewise::binary32(DOT, a[i], b[i]);
+            a[i] = array_lanewise::binary32(DOT, a[i], b[i]);
         }
         V128::from_places32(a)
     }

@@ -1,7 +1,7 @@
 -- Conversions between whole numbers and floats and between the two float formats, and floats rounded to whole numbers, on patterns (the standard, 4.3.3
 -- "Floating-Point Operations" and 4.3.4 "Conversions"). A finite float is a sign and a quotient of whole numbers: `fin s m e` is ± (m * up e) / down e. Into
 -- a format one rule rounds: `round f s n c` is the value of f nearest to ± n / c, a tie to the even one (lib.Ieee; proved in
--- `float_theorems/proofs/Nearest`).
+-- `lane_float_theorems/proofs/Nearest`).
 use Prim.Native.Nat.{ℕ, _+_, _-_, _*_, _/_}
 use mathlib.Core.Bool.{Bool, cond}
 use lib.IntN.{pos}

@@ -1,5 +1,5 @@
 -- What the relaxed instructions give here, one value each, "as the Rust chooses" (document 02, order 11). What WebAssembly 3.0 allows them to give is said
--- apart, in the crate `relaxed`.
+-- apart, in the crate `lane_relaxed_theorems`.
 use Prim.Native.Nat.{ℕ}
 use lib.Ieee.{Format}
 use Rattle.standard.specs.Lanes.{binary}

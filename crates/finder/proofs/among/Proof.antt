@@ -4,9 +4,9 @@ use mathlib.Core.Path.{_≡_, refl, sym, _∙_}
 use mathlib.Core.Logic.{⊎-elim}
 use native.Mathlib.Omega.{arith}
 use borrow.Author.Needs.{needs}
-use Rattle.windows.specs.Definition.{binary, bits, mark, window, distance, first-from}
-use Rattle.windows.proofs.Distance.{distance-inside}
-use Rattle.windows.proofs.Positions.{far, none, one, among-the-first, passed}
+use Rattle.finder_windows.specs.Definition.{binary, bits, mark, window, distance, first-from}
+use Rattle.finder_windows.proofs.Distance.{distance-inside}
+use Rattle.finder_windows.proofs.Positions.{far, none, one, among-the-first, passed}
 use Rattle.finder.proofs.among.Statement.{statement}
 use Rattle.finder.proofs.among.Tie as tie
 

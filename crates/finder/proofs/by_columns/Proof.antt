@@ -6,10 +6,10 @@ use mathlib.Core.Logic.{⊎-elim}
 use native.Mathlib.Nat.{add-zero, sub-zero}
 use native.Mathlib.Omega.{arith}
 use borrow.Author.Needs.{needs}
-use Rattle.windows.specs.Definition.{bits, mark, Answer, first-from}
-use Rattle.windows.proofs.Positions.{far, none, among-the-first, passed}
-use Rattle.columns.specs.Columns.{Columns}
-use Rattle.passing.specs.Next.{Far, Next}
+use Rattle.finder_windows.specs.Definition.{bits, mark, Answer, first-from}
+use Rattle.finder_windows.proofs.Positions.{far, none, among-the-first, passed}
+use Rattle.finder_columns.specs.Columns.{Columns}
+use Rattle.finder_passing.specs.Next.{Far, Next}
 use Rattle.finder.proofs.by_columns.Statement.{statement}
 use Rattle.finder.proofs.by_columns.Tie as tie
 

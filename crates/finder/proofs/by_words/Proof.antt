@@ -5,9 +5,9 @@ use mathlib.Core.Bool.{false}
 use mathlib.Core.Logic.{⊎-elim}
 use native.Mathlib.Omega.{arith}
 use borrow.Author.Needs.{needs}
-use Rattle.windows.specs.Definition.{bits, mark, window, distance, first-from}
-use Rattle.windows.proofs.Distance.{distance-inside}
-use Rattle.windows.proofs.Positions.{far, none, among-the-first, passed}
+use Rattle.finder_windows.specs.Definition.{bits, mark, window, distance, first-from}
+use Rattle.finder_windows.proofs.Distance.{distance-inside}
+use Rattle.finder_windows.proofs.Positions.{far, none, among-the-first, passed}
 use Rattle.finder.proofs.by_words.Statement.{statement}
 use Rattle.finder.proofs.by_words.Tie as tie
 

@@ -2,9 +2,9 @@
 use mathlib.Core.Path.{_≡_, sym, _∙_}
 use native.Mathlib.Omega.{arith}
 use borrow.Author.Needs.{needs}
-use Rattle.windows.specs.Definition.{refusal}
-use Rattle.windows.proofs.Bits.{length-bits}
-use Rattle.windows.proofs.Refusals.{admitted, find-refused, find-searched}
+use Rattle.finder_windows.specs.Definition.{refusal}
+use Rattle.finder_windows.proofs.Bits.{length-bits}
+use Rattle.finder_windows.proofs.Refusals.{admitted, find-refused, find-searched}
 use Rattle.finder.proofs.find.Statement.{statement}
 use Rattle.finder.proofs.find.Tie as tie
 

@@ -5,7 +5,7 @@ use native.Mathlib.Nat.{sub-add-eq}
 use native.Mathlib.Omega.{arith}
 use borrow.Author.Needs.{needs}
 use lib.ListN.{length}
-use Rattle.windows.proofs.Positions.{among-the-first, passed}
+use Rattle.finder_windows.proofs.Positions.{among-the-first, passed}
 use Rattle.finder.proofs.next.Statement.{statement}
 use Rattle.finder.proofs.next.Tie as tie
 

@@ -4,9 +4,9 @@ use mathlib.Core.Path.{_≡_, sym, _∙_}
 use native.Mathlib.Omega.{arith}
 use borrow.Author.Needs.{needs}
 use lib.ListN.{length}
-use Rattle.windows.specs.Definition.{bits, mark, window, distance}
-use Rattle.windows.proofs.Distance.{distance-inside}
-use Rattle.windows.proofs.Positions.{far, none, one}
+use Rattle.finder_windows.specs.Definition.{bits, mark, window, distance}
+use Rattle.finder_windows.proofs.Distance.{distance-inside}
+use Rattle.finder_windows.proofs.Positions.{far, none, one}
 use Rattle.finder.proofs.only.Statement.{statement}
 use Rattle.finder.proofs.only.Tie as tie
 

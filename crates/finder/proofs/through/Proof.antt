@@ -4,8 +4,8 @@ use mathlib.Core.Path.{_≡_, refl, sym, _∙_}
 use native.Mathlib.Nat.{add-zero, sub-zero}
 use native.Mathlib.Omega.{arith}
 use borrow.Author.Needs.{needs}
-use Rattle.windows.specs.Definition.{bits, mark, first-from}
-use Rattle.windows.proofs.Positions.{among-the-first, passed}
+use Rattle.finder_windows.specs.Definition.{bits, mark, first-from}
+use Rattle.finder_windows.proofs.Positions.{among-the-first, passed}
 use Rattle.finder.proofs.through.Statement.{statement}
 use Rattle.finder.proofs.through.Tie as tie
 

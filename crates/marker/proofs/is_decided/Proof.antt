@@ -4,7 +4,7 @@ use mathlib.Core.Path.{sym}
 use borrow.Author.Needs.{needs}
 use borrow.Author.Tests.{eqb-false, not-true}
 use lib.Dec.{eqb}
-use Rattle.windows.proofs.Theorems.{arguments-decide}
+use Rattle.finder_windows.proofs.Theorems.{arguments-decide}
 use Rattle.marker.proofs.is_decided.Statement.{statement}
 use Rattle.marker.proofs.is_decided.Tie as tie
 

@@ -6,11 +6,11 @@ use Prim.Native.Nat.{ℕ, _*_, _≤_}
 use native.Mathlib.Omega.{arith}
 use lib.ListN.{length}
 use lib.Seq.{length-take-le}
-use Rattle.mending_rules.specs.Definition as definition
-use Rattle.mending_rules.specs.Definition.{mending}
-use Rattle.mending.specs.Answer.{mending-of}
-use Rattle.mending.specs.declared.Mending.{Mending}
-use Rattle.mending_rules.proofs.Files.{in-room}
+use Rattle.recording_mending_rules.specs.Definition as definition
+use Rattle.recording_mending_rules.specs.Definition.{mending}
+use Rattle.recording_mending.specs.Answer.{mending-of}
+use Rattle.recording_mending.specs.declared.Mending.{Mending}
+use Rattle.recording_mending_rules.proofs.Files.{in-room}
 use Rattle.mend.proofs.write_mended.Statement.{statement}
 use Rattle.mend.proofs.write_mended.Tie as tie
 

@@ -2,8 +2,8 @@
 use mathlib.Core.Path.{sym, ap, _∙_}
 use borrow.Author.Tests.{eq-eqb, ne-eqb}
 use Rattle.standard.specs.Integer.{ieq, truth}
-use Rattle.packed.specs.Half.{half-binary}
-use Rattle.packed.proofs.Whole.{one-pair}
+use Rattle.packed_half.specs.Half.{half-binary}
+use Rattle.packed_half.proofs.Whole.{one-pair}
 use Rattle.packed_compare.proofs.eq64.Statement.{statement}
 use Rattle.packed_compare.proofs.eq64.Tie as tie
 

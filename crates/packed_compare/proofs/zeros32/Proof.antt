@@ -1,6 +1,6 @@
 -- `packed_compare::zeros32` meets its contract, by the laws of zero lanes at 2 lanes of 32 bits. Assumes nothing.
-use Rattle.packed.specs.Half.{half-unary}
-use Rattle.packed.proofs.Zero.{zeros-fit, zeros-are}
+use Rattle.packed_half.specs.Half.{half-unary}
+use Rattle.packed_half.proofs.Zero.{zeros-fit, zeros-are}
 use Rattle.packed_compare.proofs.zeros32.Statement.{statement}
 use Rattle.packed_compare.proofs.zeros32.Tie as tie
 

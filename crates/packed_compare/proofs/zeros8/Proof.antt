@@ -1,6 +1,6 @@
 -- `packed_compare::zeros8` meets its contract, by the laws of zero lanes at 8 lanes of 8 bits. Assumes nothing.
-use Rattle.packed.specs.Half.{half-unary}
-use Rattle.packed.proofs.Zero.{zeros-fit, zeros-are}
+use Rattle.packed_half.specs.Half.{half-unary}
+use Rattle.packed_half.proofs.Zero.{zeros-fit, zeros-are}
 use Rattle.packed_compare.proofs.zeros8.Statement.{statement}
 use Rattle.packed_compare.proofs.zeros8.Tie as tie
 

@@ -1,6 +1,6 @@
 -- `packed_count::popcnt8` meets its contract, by the laws of packed counts at 8 lanes. Assumes nothing.
-use Rattle.packed.specs.Half.{half-unary}
-use Rattle.packed.proofs.Ones.{pairs-fit, four-counts-fit, counts-fit, counts-are}
+use Rattle.packed_half.specs.Half.{half-unary}
+use Rattle.packed_half.proofs.Ones.{pairs-fit, four-counts-fit, counts-fit, counts-are}
 use Rattle.packed_count.proofs.popcnt8.Statement.{statement}
 use Rattle.packed_count.proofs.popcnt8.Tie as tie
 

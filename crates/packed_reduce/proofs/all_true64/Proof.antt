@@ -1,8 +1,8 @@
 -- `packed_reduce::all_true64` meets its contract: the half is one lane. Assumes nothing.
 use lib.Dec.{eqb}
 use native.Mathlib.Nat.{mod-eq-of-lt}
-use Rattle.packed.specs.Half.{half-all-true}
-use Rattle.packed.proofs.Whole.{not-test}
+use Rattle.packed_half.specs.Half.{half-all-true}
+use Rattle.packed_half.proofs.Whole.{not-test}
 use Rattle.packed_reduce.proofs.all_true64.Statement.{statement}
 use Rattle.packed_reduce.proofs.all_true64.Tie as tie
 

@@ -1,7 +1,7 @@
 -- `packed_reduce::all_true8` meets its contract: no top bit stands for one of 8 lanes of 8 bits that is 0. Assumes nothing.
 use borrow.Author.Needs.{needs}
-use Rattle.packed.specs.Half.{half-unary, half-all-true}
-use Rattle.packed.proofs.Zero.{all-true-is}
+use Rattle.packed_half.specs.Half.{half-unary, half-all-true}
+use Rattle.packed_half.proofs.Zero.{all-true-is}
 use Rattle.packed_reduce.proofs.all_true8.Statement.{statement}
 use Rattle.packed_reduce.proofs.all_true8.Tie as tie
 

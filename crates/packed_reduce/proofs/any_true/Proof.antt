@@ -1,7 +1,7 @@
 -- `packed_reduce::any_true` meets its contract. Assumes nothing.
 use lib.Dec.{eqb}
 use Rattle.standard.specs.Vector.{any-true}
-use Rattle.packed.proofs.Whole.{not-test}
+use Rattle.packed_half.proofs.Whole.{not-test}
 use Rattle.packed_reduce.proofs.any_true.Statement.{statement}
 use Rattle.packed_reduce.proofs.any_true.Tie as tie
 

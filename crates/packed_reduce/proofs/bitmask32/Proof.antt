@@ -1,8 +1,8 @@
 -- `packed_reduce::bitmask32` meets its contract: the sign bits of 2 lanes of 32 bits, from the low end. Assumes nothing.
 use borrow.Author.Needs.{needs}
 use lib.Dec.{lit<}
-use Rattle.packed.specs.Half.{half-bitmask}
-use Rattle.packed.proofs.Signs.{gathered-is, lowest}
+use Rattle.packed_half.specs.Half.{half-bitmask}
+use Rattle.packed_half.proofs.Signs.{gathered-is, lowest}
 use Rattle.packed_reduce.proofs.bitmask32.Statement.{statement}
 use Rattle.packed_reduce.proofs.bitmask32.Tie as tie
 

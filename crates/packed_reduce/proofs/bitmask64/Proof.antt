@@ -1,9 +1,9 @@
 -- `packed_reduce::bitmask64` meets its contract: the half is one lane. Assumes nothing.
 use mathlib.Core.Path.{sym, _∙_}
 use borrow.Author.Needs.{needs}
-use Rattle.packed.specs.Half.{half-bitmask, sign-bit}
-use Rattle.packed.proofs.Signs.{top-sign}
-use Rattle.packed.proofs.Whole.{one-lane}
+use Rattle.packed_half.specs.Half.{half-bitmask, sign-bit}
+use Rattle.packed_half.proofs.Signs.{top-sign}
+use Rattle.packed_half.proofs.Whole.{one-lane}
 use Rattle.packed_reduce.proofs.bitmask64.Statement.{statement}
 use Rattle.packed_reduce.proofs.bitmask64.Tie as tie
 

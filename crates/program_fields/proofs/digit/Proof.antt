@@ -1,6 +1,6 @@
 -- `program_fields::digit` meets its contract. Assumes nothing.
 use native.Mathlib.Omega.{arith}
-use Rattle.arguments.proofs.Numerals.{within}
+use Rattle.program_arguments.proofs.Numerals.{within}
 use Rattle.program_fields.proofs.digit.Statement.{statement}
 use Rattle.program_fields.proofs.digit.Tie as tie
 

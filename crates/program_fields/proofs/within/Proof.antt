@@ -1,7 +1,7 @@
 -- `program_fields::within` meets its contract. Assumes nothing.
 use borrow.Author.Needs.{needs}
 use native.Mathlib.Omega.{arith}
-use Rattle.arguments.proofs.Numerals.{within}
+use Rattle.program_arguments.proofs.Numerals.{within}
 use Rattle.program_fields.proofs.within.Statement.{statement}
 use Rattle.program_fields.proofs.within.Tie as tie
 

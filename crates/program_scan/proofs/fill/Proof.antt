@@ -5,10 +5,10 @@ use mathlib.Core.Bool.{true, false, true≢false}
 use mathlib.Core.Logic.{⊎-elim}
 use native.Mathlib.Omega.{arith}
 use lib.ListN.{length}
-use Rattle.windows.specs.Definition.{bits, mark}
-use Rattle.windows.specs.declared.Answer.{Answer}
-use Rattle.columns.specs.Columns.{Columns}
-use Rattle.meetings.specs.Meetings.{all-from, shift}
+use Rattle.finder_windows.specs.Definition.{bits, mark}
+use Rattle.finder_windows.specs.declared.Answer.{Answer}
+use Rattle.finder_columns.specs.Columns.{Columns}
+use Rattle.capture_meetings.specs.Meetings.{all-from, shift}
 use Rattle.program_digits.specs.Put.{Wrote}
 use Rattle.program_digits.proofs.Puts.{then, said-as, no-more}
 use Rattle.program_scan.specs.Lines.{lines}

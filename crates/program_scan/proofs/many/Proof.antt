@@ -3,7 +3,7 @@ use Prim.Native.Nat.{ℕ, _+_}
 use mathlib.Core.Path.{_≡_, refl, sym, ap, _∙_}
 use native.Mathlib.Omega.{arith}
 use borrow.Author.Count.{below-none}
-use Rattle.distances.specs.Windows.{Laid}
+use Rattle.finder_distances.specs.Windows.{Laid}
 use Rattle.program_digits.proofs.Puts.{said-as}
 use Rattle.program_scan.proofs.Judging.{plains, meetings-are, few}
 use borrow.Author.Needs.{needs}

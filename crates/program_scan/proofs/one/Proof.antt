@@ -1,7 +1,7 @@
 -- `program_scan::one` meets its contract. Assumes nothing.
 use mathlib.Core.Path.{refl}
 use native.Mathlib.Omega.{arith}
-use Rattle.meetings.specs.Meetings.{met}
+use Rattle.capture_meetings.specs.Meetings.{met}
 use Rattle.program_digits.proofs.Puts.{said-as}
 use Rattle.program_scan.proofs.Ink.{one-line}
 use borrow.Author.Needs.{needs}

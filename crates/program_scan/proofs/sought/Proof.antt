@@ -3,8 +3,8 @@ use Prim.Native.Nat.{ℕ, _+_, _*_, _-_, _<_, _≤_}
 use mathlib.Core.Path.{_≡_, refl, sym, ap, _∙_}
 use native.Mathlib.Omega.{arith}
 use lib.ListN.{length}
-use Rattle.windows.specs.Definition.{bits, mark, found, first-from}
-use Rattle.columns.specs.Columns.{Columns}
+use Rattle.finder_windows.specs.Definition.{bits, mark, found, first-from}
+use Rattle.finder_columns.specs.Columns.{Columns}
 use Rattle.program_scan.proofs.Search.{nowhere, head, near, beyond}
 use borrow.Author.Needs.{needs}
 use Rattle.program_scan.proofs.sought.Statement.{statement}

@@ -6,11 +6,11 @@ use Prim.Native.Nat.{ℕ, _≤_}
 use native.Mathlib.Omega.{arith}
 use lib.ListN.{length}
 use lib.Seq.{length-take-le}
-use Rattle.records.specs.Definition as definition
-use Rattle.records.specs.Definition.{recorded}
-use Rattle.records.proofs.Theorems.{in-room}
-use Rattle.records.specs.Answer.{recorded-of}
-use Rattle.records.specs.declared.Recorded.{Recorded}
+use Rattle.recording_rules.specs.Definition as definition
+use Rattle.recording_rules.specs.Definition.{recorded}
+use Rattle.recording_rules.proofs.Theorems.{in-room}
+use Rattle.recording_rules.specs.Answer.{recorded-of}
+use Rattle.recording_rules.specs.declared.Recorded.{Recorded}
 use Rattle.record.proofs.write_recording.Statement.{statement}
 use Rattle.record.proofs.write_recording.Tie as tie
 

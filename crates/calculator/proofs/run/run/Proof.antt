@@ -3,9 +3,9 @@ use denote.Ref.{now}
 use mathlib.Core.Path.{sym, _∙_}
 use lib.ListN.{length}
 use borrow.Author.Tests.{ne-eqb}
-use Rattle.rules.specs.Definition.{run}
-use Rattle.rules.proofs.Pauses.{fits}
-use Rattle.rules.proofs.Shapes.{nothing}
+use Rattle.calculator_rules.specs.Definition.{run}
+use Rattle.calculator_rules.proofs.Pauses.{fits}
+use Rattle.calculator_rules.proofs.Shapes.{nothing}
 use Rattle.calculator.proofs.run.run.Statement.{statement}
 use Rattle.calculator.proofs.run.run.Tie as tie
 

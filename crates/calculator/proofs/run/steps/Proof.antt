@@ -6,9 +6,9 @@ use native.Mathlib.Omega.{arith}
 use lib.ListN.{length, take, drop}
 use borrow.Author.Tests.{ne-eqb}
 use Rattle.standard.specs.Refusal.{given, refused}
-use Rattle.rules.specs.Definition.{step, steps}
-use Rattle.rules.proofs.Shapes.{nothing}
-use Rattle.state.specs.State.{held}
+use Rattle.calculator_rules.specs.Definition.{step, steps}
+use Rattle.calculator_rules.proofs.Shapes.{nothing}
+use Rattle.calculator_state.specs.State.{held}
 use Rattle.calculator.proofs.Runs.{rest, starts, turn, stop, stops-here}
 use Rattle.calculator.proofs.run.steps.Statement.{statement}
 use Rattle.calculator.proofs.run.steps.Tie as tie

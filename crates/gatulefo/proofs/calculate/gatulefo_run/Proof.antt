@@ -4,9 +4,9 @@ use Prim.Native.Nat.{ℕ}
 use mathlib.Core.Path.{_≡_, refl, ap, _∙_}
 use mathlib.Core.List.{List}
 use denote.Ref.{now}
-use Rattle.rules.specs.Definition.{run}
-use Rattle.limits.specs.Outcome.{outcome-of}
-use Rattle.handover_station.specs.Calculate.{stop-numbers, left-by-run}
+use Rattle.calculator_rules.specs.Definition.{run}
+use Rattle.calculator_limits.specs.Outcome.{outcome-of}
+use Rattle.link_station.specs.Calculate.{stop-numbers, left-by-run}
 use Rattle.gatulefo.proofs.Machines.{machines}
 use Rattle.gatulefo.proofs.calculate.gatulefo_run.Statement.{statement}
 use Rattle.gatulefo.proofs.calculate.gatulefo_run.Tie as tie

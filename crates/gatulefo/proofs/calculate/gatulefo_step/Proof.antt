@@ -9,10 +9,10 @@ use lib.Dec.{eqb}
 use borrow.Author.Tests.{ne-eqb}
 use denote.Ref.{now}
 use Rattle.standard.specs.Refusal.{Answer, given, refused}
-use Rattle.rules.specs.Definition.{Machine, step}
-use Rattle.scalar.specs.declared.Scalar.{Scalar}
-use Rattle.state.specs.State.{vectors, held}
-use Rattle.handover_station.specs.Calculate.{machine-numbers, left-by-step}
+use Rattle.calculator_rules.specs.Definition.{Machine, step}
+use Rattle.calculator_scalar.specs.declared.Scalar.{Scalar}
+use Rattle.calculator_state.specs.State.{vectors, held}
+use Rattle.link_station.specs.Calculate.{machine-numbers, left-by-step}
 use Rattle.gatulefo.proofs.Machines.{machines}
 use Rattle.gatulefo.proofs.calculate.gatulefo_step.Statement.{statement}
 use Rattle.gatulefo.proofs.calculate.gatulefo_step.Tie as tie

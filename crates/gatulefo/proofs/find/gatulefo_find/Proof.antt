@@ -1,7 +1,7 @@
 -- `gatulefo::find::gatulefo_find` meets its contract: the finder's answer as numbers. Assumes nothing.
 use borrow.Author.Needs.{needs}
 use mathlib.Core.Path.{ap, _∙_}
-use Rattle.handover_station.specs.Find.{finding}
+use Rattle.link_station.specs.Find.{finding}
 use Rattle.gatulefo.proofs.find.gatulefo_find.Statement.{statement}
 use Rattle.gatulefo.proofs.find.gatulefo_find.Tie as tie
 

@@ -1,7 +1,7 @@
 -- `gatulefo::recordings::gatulefo_record` meets its contract: the recorder's answer as numbers, with what it left in the buffer. Assumes nothing.
 use borrow.Author.Needs.{needs}
 use mathlib.Core.Path.{ap, _∙_}
-use Rattle.handover_station.specs.Recording.{left-by-recorder}
+use Rattle.link_station.specs.Recording.{left-by-recorder}
 use Rattle.gatulefo.proofs.Pairs.{beside}
 use Rattle.gatulefo.proofs.recordings.gatulefo_record.Statement.{statement}
 use Rattle.gatulefo.proofs.recordings.gatulefo_record.Tie as tie

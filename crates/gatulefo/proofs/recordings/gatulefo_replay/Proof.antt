@@ -1,7 +1,7 @@
 -- `gatulefo::recordings::gatulefo_replay` meets its contract: the replay's answer as numbers. Assumes nothing.
 use borrow.Author.Needs.{needs}
 use mathlib.Core.Path.{ap, _∙_}
-use Rattle.handover_station.specs.Recording.{replayed}
+use Rattle.link_station.specs.Recording.{replayed}
 use Rattle.gatulefo.proofs.recordings.gatulefo_replay.Statement.{statement}
 use Rattle.gatulefo.proofs.recordings.gatulefo_replay.Tie as tie
 

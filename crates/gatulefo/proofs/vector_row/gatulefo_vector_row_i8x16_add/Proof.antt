@@ -4,7 +4,7 @@ use denote.Triple.Spec.{tripleOf}
 use denote.Triple.Table.{entered, cited}
 use Rattle.standard.specs.Integer.{iadd}
 use Rattle.standard.specs.Lanes.{binary}
-use Rattle.rows.proofs.TwoRows.{Op, row-meets}
+use Rattle.row_vectors.proofs.TwoRows.{Op, row-meets}
 use Rattle.packed_vector.proofs.i8x16_add.Symbol as op-def
 use Rattle.packed_vector.proofs.i8x16_add.Symbol.{name as #op}
 use Rattle.packed_vector.proofs.i8x16_add.Met as op-thm

@@ -4,7 +4,7 @@ use denote.Triple.Spec.{tripleOf}
 use denote.Triple.Table.{entered, cited}
 use Rattle.standard.specs.Integer.{ipopcnt}
 use Rattle.standard.specs.Lanes.{unary}
-use Rattle.rows.proofs.OneRow.{Op, row-meets}
+use Rattle.row_vectors.proofs.OneRow.{Op, row-meets}
 use Rattle.packed_vector.proofs.i8x16_popcnt.Symbol as op-def
 use Rattle.packed_vector.proofs.i8x16_popcnt.Symbol.{name as #op}
 use Rattle.packed_vector.proofs.i8x16_popcnt.Met as op-thm

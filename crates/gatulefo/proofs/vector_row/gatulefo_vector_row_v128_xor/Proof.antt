@@ -3,7 +3,7 @@ use contract.Running.{givenOf, tables, tablesOf}
 use denote.Triple.Spec.{tripleOf}
 use denote.Triple.Table.{entered, cited}
 use Rattle.standard.specs.Integer.{ixor}
-use Rattle.rows.proofs.TwoRows.{Op, row-meets}
+use Rattle.row_vectors.proofs.TwoRows.{Op, row-meets}
 use Rattle.simd.proofs.V128.v128_xor.Symbol as op-def
 use Rattle.simd.proofs.V128.v128_xor.Symbol.{name as #op}
 use Rattle.simd.proofs.V128.v128_xor.Met as op-thm

@@ -1,6 +1,6 @@
 -- `packed_sum::arithmetic::add16` meets its contract, by the laws of packed sums at 4 lanes of 16 bits. Assumes nothing.
-use Rattle.packed.specs.Half.{half-binary}
-use Rattle.packed.proofs.Sum.{sum-fits, sum-is}
+use Rattle.packed_half.specs.Half.{half-binary}
+use Rattle.packed_half.proofs.Sum.{sum-fits, sum-is}
 use Rattle.packed_sum.proofs.arithmetic.add16.Statement.{statement}
 use Rattle.packed_sum.proofs.arithmetic.add16.Tie as tie
 

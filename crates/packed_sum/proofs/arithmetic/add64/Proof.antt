@@ -2,8 +2,8 @@
 use mathlib.Core.Path.{sym, _∙_}
 use borrow.Author.Needs.{needs}
 use Rattle.standard.specs.Integer.{iadd}
-use Rattle.packed.specs.Half.{half-binary}
-use Rattle.packed.proofs.Whole.{one-pair}
+use Rattle.packed_half.specs.Half.{half-binary}
+use Rattle.packed_half.proofs.Whole.{one-pair}
 use Rattle.packed_sum.proofs.arithmetic.add64.Statement.{statement}
 use Rattle.packed_sum.proofs.arithmetic.add64.Tie as tie
 

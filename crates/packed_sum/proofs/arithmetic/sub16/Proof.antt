@@ -1,6 +1,6 @@
 -- `packed_sum::arithmetic::sub16` meets its contract, by the laws of packed differences at 4 lanes of 16 bits. Assumes nothing.
-use Rattle.packed.specs.Half.{half-binary}
-use Rattle.packed.proofs.Sum.{difference-fits, difference-is}
+use Rattle.packed_half.specs.Half.{half-binary}
+use Rattle.packed_half.proofs.Sum.{difference-fits, difference-is}
 use Rattle.packed_sum.proofs.arithmetic.sub16.Statement.{statement}
 use Rattle.packed_sum.proofs.arithmetic.sub16.Tie as tie
 

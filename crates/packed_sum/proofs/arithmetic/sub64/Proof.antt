@@ -3,8 +3,8 @@ use mathlib.Core.Path.{_≡_, sym, _∙_}
 use native.Mathlib.Omega.{arith}
 use borrow.Author.Needs.{needs}
 use Rattle.standard.specs.Integer.{isub}
-use Rattle.packed.specs.Half.{half-binary}
-use Rattle.packed.proofs.Whole.{one-pair}
+use Rattle.packed_half.specs.Half.{half-binary}
+use Rattle.packed_half.proofs.Whole.{one-pair}
 use Rattle.packed_sum.proofs.arithmetic.sub64.Statement.{statement}
 use Rattle.packed_sum.proofs.arithmetic.sub64.Tie as tie
 

@@ -1,6 +1,6 @@
 -- `packed_sum::average::avgr_u16` meets its contract, by the laws of packed averages at 4 lanes of 16 bits. Assumes nothing.
-use Rattle.packed.specs.Half.{half-binary}
-use Rattle.packed.proofs.Mean.{mean-fits, mean-is}
+use Rattle.packed_half.specs.Half.{half-binary}
+use Rattle.packed_half.proofs.Mean.{mean-fits, mean-is}
 use Rattle.packed_sum.proofs.average.avgr_u16.Statement.{statement}
 use Rattle.packed_sum.proofs.average.avgr_u16.Tie as tie
 

@@ -1,6 +1,6 @@
 -- `packed_sum::average::avgr_u8` meets its contract, by the laws of packed averages at 8 lanes of 8 bits. Assumes nothing.
-use Rattle.packed.specs.Half.{half-binary}
-use Rattle.packed.proofs.Mean.{mean-fits, mean-is}
+use Rattle.packed_half.specs.Half.{half-binary}
+use Rattle.packed_half.proofs.Mean.{mean-fits, mean-is}
 use Rattle.packed_sum.proofs.average.avgr_u8.Statement.{statement}
 use Rattle.packed_sum.proofs.average.avgr_u8.Tie as tie
 

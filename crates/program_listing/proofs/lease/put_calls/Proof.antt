@@ -5,9 +5,9 @@ use Prim.Native.Nat.{ℕ, suc, _-_, _/_, _≤_, _<_, _^_}
 use native.Mathlib.Omega.{arith}
 use mathlib.Core.Path.{_≡_, ap}
 use lib.ListN.{length}
-use Rattle.rules.specs.Definition.{start}
-use Rattle.limits.specs.Outcome.{outcome-of}
-use Rattle.state.specs.State.{machine}
+use Rattle.calculator_rules.specs.Definition.{start}
+use Rattle.calculator_limits.specs.Outcome.{outcome-of}
+use Rattle.calculator_state.specs.State.{machine}
 use Rattle.program_listing.proofs.Moves.{few, moved, below}
 use Rattle.program_digits.proofs.Puts.{then, said-as, Completes}
 use Rattle.program_listing.specs.Lease.{calls}

@@ -1,10 +1,10 @@
 -- `recording::account::account` meets its contract. Assumes nothing.
 use denote.Ref.{now}
 use mathlib.Core.Path.{_≡_, ap, _∙_}
-use Rattle.rules.proofs.Shapes.{nothing}
-use Rattle.state.specs.State.{held}
-use Rattle.records.specs.Definition.{kind-byte}
-use Rattle.records.proofs.Accounts.{traced, goes-on}
+use Rattle.calculator_rules.proofs.Shapes.{nothing}
+use Rattle.calculator_state.specs.State.{held}
+use Rattle.recording_rules.specs.Definition.{kind-byte}
+use Rattle.recording_rules.proofs.Accounts.{traced, goes-on}
 use Rattle.recording.proofs.account.account.Statement.{statement}
 use Rattle.recording.proofs.account.account.Tie as tie
 

@@ -7,11 +7,11 @@ use Prim.Native.Nat.{ℕ, _%_}
 use lib.ListN.{getD}
 use borrow.Author.Tests.{eq-eqb, ne-eqb}
 use Rattle.standard.specs.Instruction.{instruction}
-use Rattle.rules.specs.Definition.{Profile, profile, operation}
-use Rattle.rules.specs.Shape.{shape, profile-of}
-use Rattle.rules.specs.declared.shape.Shape.{Shape}
-use Rattle.rules.proofs.Shapes.{nothing, profile-kept}
-use Rattle.state.specs.State.{vectors}
+use Rattle.calculator_rules.specs.Definition.{Profile, profile, operation}
+use Rattle.calculator_rules.specs.Shape.{shape, profile-of}
+use Rattle.calculator_rules.specs.declared.shape.Shape.{Shape}
+use Rattle.calculator_rules.proofs.Shapes.{nothing, profile-kept}
+use Rattle.calculator_state.specs.State.{vectors}
 use Rattle.recording.proofs.account.written.Statement.{statement}
 use Rattle.recording.proofs.account.written.Tie as tie
 

@@ -5,10 +5,10 @@ use Prim.Native.Nat.{_+_, _-_, _*_, _/_, _≤_}
 use native.Mathlib.Nat.{sub-zero}
 use native.Mathlib.Omega.{arith}
 use lib.ListN.{length, drop}
-use Rattle.rules.proofs.Shapes.{nothing}
-use Rattle.state.specs.State.{held}
-use Rattle.records.specs.Definition.{records-from, records-of}
-use Rattle.records.proofs.Accounts.{count-more, count-last, count-end}
+use Rattle.calculator_rules.proofs.Shapes.{nothing}
+use Rattle.calculator_state.specs.State.{held}
+use Rattle.recording_rules.specs.Definition.{records-from, records-of}
+use Rattle.recording_rules.proofs.Accounts.{count-more, count-last, count-end}
 use Rattle.recording.proofs.recorder.count.Statement.{statement}
 use Rattle.recording.proofs.recorder.count.Tie as tie
 

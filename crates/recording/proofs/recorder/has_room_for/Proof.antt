@@ -6,10 +6,10 @@ use Prim.Native.Nat.{ℕ, _*_}
 use native.Mathlib.Omega.{arith}
 use lib.ListN.{length}
 use borrow.Author.Needs.{needs}
-use Rattle.rules.proofs.Shapes.{nothing}
-use Rattle.packing.specs.Definition.{fits}
-use Rattle.packing.proofs.Blocks.{fitting}
-use Rattle.records.proofs.Theorems.{whole, room-for-all}
+use Rattle.calculator_rules.proofs.Shapes.{nothing}
+use Rattle.recording_packing.specs.Definition.{fits}
+use Rattle.recording_packing.proofs.Blocks.{fitting}
+use Rattle.recording_rules.proofs.Theorems.{whole, room-for-all}
 use Rattle.recording.proofs.recorder.has_room_for.Statement.{statement}
 use Rattle.recording.proofs.recorder.has_room_for.Tie as tie
 

@@ -7,12 +7,12 @@ use native.Mathlib.Omega.{arith}
 use lib.ListN.{length}
 use borrow.Author.Needs.{needs}
 use borrow.Author.Tests.{not-true, not-false}
-use Rattle.rules.specs.Definition.{list-refusal}
-use Rattle.rules.proofs.Shapes.{nothing}
-use Rattle.packing.specs.Definition.{fits, blocks-for}
-use Rattle.packing.proofs.Blocks.{fitting}
-use Rattle.records.specs.Definition.{records-of, wrote}
-use Rattle.records.proofs.Theorems.{whole, when-refused, when-empty, when-sealed, when-short}
+use Rattle.calculator_rules.specs.Definition.{list-refusal}
+use Rattle.calculator_rules.proofs.Shapes.{nothing}
+use Rattle.recording_packing.specs.Definition.{fits, blocks-for}
+use Rattle.recording_packing.proofs.Blocks.{fitting}
+use Rattle.recording_rules.specs.Definition.{records-of, wrote}
+use Rattle.recording_rules.proofs.Theorems.{whole, when-refused, when-empty, when-sealed, when-short}
 use Rattle.recording.proofs.recorder.record.Statement.{statement}
 use Rattle.recording.proofs.recorder.record.Tie as tie
 

@@ -7,12 +7,12 @@ use native.Mathlib.Nat.{sub-zero}
 use native.Mathlib.Omega.{arith}
 use borrow.Rule.Slice.PartMut.{same-len-mid}
 use lib.ListN.{length, drop}
-use Rattle.rules.proofs.Shapes.{nothing}
-use Rattle.state.specs.State.{held}
-use Rattle.packing.specs.Definition.{blocks-for, standing}
-use Rattle.packing.proofs.Standing.{place}
-use Rattle.records.specs.Definition.{records-from, records-of}
-use Rattle.records.proofs.Accounts.{run-end, has-place, count-more, count-last, count-end, one-more, last-one, as-before}
+use Rattle.calculator_rules.proofs.Shapes.{nothing}
+use Rattle.calculator_state.specs.State.{held}
+use Rattle.recording_packing.specs.Definition.{blocks-for, standing}
+use Rattle.recording_packing.proofs.Standing.{place}
+use Rattle.recording_rules.specs.Definition.{records-from, records-of}
+use Rattle.recording_rules.proofs.Accounts.{run-end, has-place, count-more, count-last, count-end, one-more, last-one, as-before}
 use Rattle.recording.proofs.recorder.record_steps.Statement.{statement}
 use Rattle.recording.proofs.recorder.record_steps.Tie as tie
 

@@ -2,10 +2,10 @@
 use denote.Ref.{now}
 use mathlib.Core.Path.{sym, ap, _∙_}
 use borrow.Author.Needs.{needs}
-use Rattle.rules.proofs.Shapes.{nothing}
-use Rattle.layout.specs.Definition as layout
-use Rattle.layout.proofs.Files.{counted}
-use Rattle.records.specs.Definition.{replay-judged, replay}
+use Rattle.calculator_rules.proofs.Shapes.{nothing}
+use Rattle.recording_layout.specs.Definition as layout
+use Rattle.recording_layout.proofs.Files.{counted}
+use Rattle.recording_rules.specs.Definition.{replay-judged, replay}
 use Rattle.recording.proofs.replay.replay.Statement.{statement}
 use Rattle.recording.proofs.replay.replay.Tie as tie
 

@@ -10,16 +10,16 @@ use native.Mathlib.Omega.{arith}
 use borrow.Author.Needs.{needs}
 use lib.ListN.{length-take, length-drop}
 use lib.Seq.{length-take-le}
-use Rattle.rules.specs.Definition.{start}
-use Rattle.rules.proofs.Shapes.{nothing}
-use Rattle.state.specs.State.{held}
-use Rattle.trace.specs.Definition.{agrees, compared}
-use Rattle.trace_compare.specs.Answer.{answer-of}
-use Rattle.trace_compare.specs.declared.Answer.{Answer}
-use Rattle.trace_compare.proofs.Answer.{the-type}
-use Rattle.layout.specs.Definition.{record-at}
-use Rattle.records.specs.Definition.{replay-from}
-use Rattle.records.proofs.Accounts.{replay-end, replay-turn, replay-stop}
+use Rattle.calculator_rules.specs.Definition.{start}
+use Rattle.calculator_rules.proofs.Shapes.{nothing}
+use Rattle.calculator_state.specs.State.{held}
+use Rattle.recording_fields.specs.Definition.{agrees, compared}
+use Rattle.recording_compare.specs.Answer.{answer-of}
+use Rattle.recording_compare.specs.declared.Answer.{Answer}
+use Rattle.recording_compare.proofs.Answer.{the-type}
+use Rattle.recording_layout.specs.Definition.{record-at}
+use Rattle.recording_rules.specs.Definition.{replay-from}
+use Rattle.recording_rules.proofs.Accounts.{replay-end, replay-turn, replay-stop}
 use Rattle.recording.proofs.replay.replay_records.Statement.{statement}
 use Rattle.recording.proofs.replay.replay_records.Tie as tie
 

@@ -3,7 +3,7 @@ use borrow.Author.Needs.{needs}
 use Prim.Native.Nat.{_≤_, _-_}
 use mathlib.Core.Path.{_≡_, refl, _∙_}
 use lib.ListN.{take}
-use Rattle.lanewise.specs.Lanewise.{binaries, binary-of}
+use Rattle.array_lanewise.specs.Lanewise.{binaries, binary-of}
 use Rattle.standard.proofs.Loop.{zipTo, turn, done}
 use Rattle.simd.proofs.V128.binary8.Statement.{statement}
 use Rattle.simd.proofs.V128.binary8.Tie as tie

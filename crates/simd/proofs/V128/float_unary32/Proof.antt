@@ -3,7 +3,7 @@ use borrow.Author.Needs.{needs}
 use Prim.Native.Nat.{_≤_, _-_}
 use mathlib.Core.Path.{_≡_, refl, _∙_}
 use lib.Ieee.{binary32}
-use Rattle.lanewise_float.specs.LanewiseFloat.{float-unary-of}
+use Rattle.array_lanewise_float.specs.LanewiseFloat.{float-unary-of}
 use Rattle.standard.proofs.Loop.{zipTo, turn, done, one-list}
 use Rattle.simd.proofs.V128.float_unary32.Statement.{statement}
 use Rattle.simd.proofs.V128.float_unary32.Tie as tie

@@ -6,7 +6,7 @@ use Prim.Native.Nat.{ℕ}
 use Rattle.standard.specs.Lanes.{joined}
 use Rattle.standard.specs.Vector.{convert-zero}
 use Rattle.standard.proofs.Halves.{lanes-64, joined-64, joined-halves}
-use Rattle.reformat.specs.Reformat.{zero-of}
+use Rattle.array_convert.specs.Reformat.{zero-of}
 use Rattle.simd.proofs.V128.format_zero.Statement.{statement}
 use Rattle.simd.proofs.V128.format_zero.Tie as tie
 

@@ -2,7 +2,7 @@
 use borrow.Author.Needs.{needs}
 use Prim.Native.Nat.{_≤_, _-_}
 use mathlib.Core.Path.{_≡_, refl, _∙_}
-use Rattle.lanewise.specs.Lanewise.{binaries32, binary-of}
+use Rattle.array_lanewise.specs.Lanewise.{binaries32, binary-of}
 use Rattle.standard.proofs.Pairs.{dot-16}
 use Rattle.standard.proofs.Loop.{zipTo, turn, done}
 use Rattle.simd.proofs.V128.i32x4_dot_i16x8_s.Statement.{statement}

@@ -4,8 +4,8 @@ use mathlib.Core.Path.{ap, _∙_}
 use mir.Syntax.{w64}
 use Rattle.standard.specs.Integer.{modulo}
 use Rattle.standard.proofs.Access.{lane-taken, lane-refused}
-use Rattle.lane.proofs.Magnitude.{kept}
-use Rattle.lane.proofs.Signed.{modulo-signed}
+use Rattle.lane_integer.proofs.Magnitude.{kept}
+use Rattle.lane_integer.proofs.Signed.{modulo-signed}
 use Rattle.simd.proofs.V128.i64x2_extract_lane.Statement.{statement}
 use Rattle.simd.proofs.V128.i64x2_extract_lane.Tie as tie
 

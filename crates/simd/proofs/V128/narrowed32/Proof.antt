@@ -7,7 +7,7 @@ use lib.ListN.{replicate, take}
 use Rattle.standard.specs.Lanes.{joined, lanes}
 use Rattle.standard.proofs.Loop.{zipTo, places, fill-turn, filled}
 use Rattle.standard.proofs.Widths.{low-lanes}
-use Rattle.width_lane.specs.Widen.{narrows}
+use Rattle.lane_width.specs.Widen.{narrows}
 use Rattle.simd.specs.Number.{number}
 use Rattle.simd.proofs.Extended.{narrows-lt}
 use Rattle.simd.proofs.V128.narrowed32.Statement.{statement}

@@ -8,7 +8,7 @@ use Rattle.standard.specs.Lanes.{joined}
 use Rattle.standard.proofs.Halves.{lanes-halves}
 use Rattle.standard.proofs.Loop.{zipTo, places, fill-turn, filled}
 use Rattle.standard.proofs.Widths.{widened}
-use Rattle.width_lane.specs.Widen.{extends}
+use Rattle.lane_width.specs.Widen.{extends}
 use Rattle.simd.proofs.V128.widen8.Statement.{statement}
 use Rattle.simd.proofs.V128.widen8.Tie as tie
 

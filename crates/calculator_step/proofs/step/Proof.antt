@@ -1,0 +1,34 @@
+-- `calculator_step::step` meets its contract: what the judge says, and where it is no refusal what is done. Assumes nothing.
+use mathlib.Core.Path.{_≡_, refl, _∙_}
+use borrow.Author.Tests.{ne-eqb}
+use Rattle.calculator_rules.proofs.Shapes.{nothing}
+use Rattle.calculator_state.specs.State.{held}
+use Rattle.calculator_step.specs.Done.{numbers}
+use Rattle.calculator_step.proofs.Performed.{passes, stops}
+use Rattle.calculator_step.proofs.step.Statement.{statement}
+use Rattle.calculator_step.proofs.step.Tie as tie
+
+returns : tie.Need-returns
+returns c =
+    let k = c .before .before .before in
+    let j = k .before .before in
+    let d = j .before .before in
+    let a = d .before .before .before .args in
+    let t = c .before .before .if1 .taken in
+    let e : k .number .last .0 ≡ numbers (d .decide .result) (a .place) (a .writers .now) (a .s .now) = rw t at (k .number .ensures) in (
+      passes (a .place) (held (a .w .now) (a .writers .now) (a .scalar)) (a .s .now) _ _ _ (d .before .operation .ensures) (d .decide .ensures) (rw (j .before .kind .ensures) at (j .judge .ensures)) _ t (c .perform .ensures (k .number .last .0) ∙ rw e),
+      λ n. absurd (n t),
+    )
+
+returns-2 : tie.Need-returns-2
+returns-2 c =
+    let k = c .before in
+    let j = k .before .before in
+    let d = j .before .before in
+    let a = d .before .before .before .args in (
+      stops (a .place) (held (a .w .now) (a .writers .now) (a .scalar)) (a .s .now) _ _ _ (d .before .operation .ensures) (d .decide .ensures) (rw (j .before .kind .ensures) at (j .judge .ensures)) _ (c .if1 .left),
+      λ n. (refl, k .number .ensures ∙ rw (ne-eqb _ _ (c .if1 .left)), refl),
+    )
+
+pub step-spec : {M : Type 1} → statement M
+step-spec = tie.close (tie.spec nothing nothing nothing nothing nothing nothing returns returns-2)

@@ -1,3 +1,0 @@
-// Arithmetic of float lanes by the operation's number (the standard, 4.3.3 "Floating-Point Operations"; document 02, order 4). The operations themselves are
-// those of `float_sums` and `float_least`.
-pub mod choose;

@@ -1,6 +1,0 @@
--- What C is handed of mending.
-use Rattle.mending_rules.specs.Definition as definition
-use Rattle.handover_station.specs.declared.mended.MendAnswer.{MendAnswer}
-
-abbrev pub mended-of : MendAnswer → definition.Mending
-mended-of m = record { refusal = m .refused; blocks = m .written; stopped = m .stopped; bits = m .bits }

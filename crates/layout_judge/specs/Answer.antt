@@ -1,7 +1,0 @@
--- What an answer of the code stands for.
-use Rattle.layout.specs.Definition as definition
-use Rattle.layout_judge.specs.declared.Judged.{Judged}
-
-abbrev pub judged-of : Judged → definition.Judged
-judged-of (Judged.Recording n) = definition.recording n
-judged-of (Judged.Refused n) = definition.refused n

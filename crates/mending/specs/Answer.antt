@@ -1,6 +1,0 @@
--- What an answer of the code stands for.
-use Rattle.mending_rules.specs.Definition as definition
-use Rattle.mending.specs.declared.Mending.{Mending}
-
-abbrev pub mending-of : Mending → definition.Mending
-mending-of m = record { refusal = m .refused; blocks = m .written; stopped = m .stopped; bits = m .bits }

@@ -1,7 +1,0 @@
--- Between the code and the definition: a register times a power of x.
-use Prim.Native.Nat.{ℕ, zero, suc}
-use Rattle.remainder.specs.Remainder.{shift}
-
-unfoldable pub times : ℕ → ℕ → ℕ
-times zero r = r
-times (suc n) r = times n (shift r)
