@@ -1,7 +1,7 @@
 #!/usr/bin/env python3
 """compare/second_scan.py MARKER TOLERANCE LENGTH [FROM COUNT] < CAPTURE
 
-A second scan, written from document 02, order 5, and from what is asked of captures of any length, and not from crates/scanning. It writes what the program
+A second scan, written from document 02, order 5, and from what is asked of captures of any length, and not from crates/capture_scanning. It writes what the program
 `scan` has to write. It holds the capture whole.
 """
 

@@ -24,7 +24,7 @@ struct MeetingOrNone {
     state: ScanState,
 }
 
-#[link(name = "scan_link", kind = "static")]
+#[link(name = "link_scan", kind = "static")]
 unsafe extern "C" {
     fn gatulefo_scan_columns(table: *mut u64, marker: u32, tolerance: u32);
     fn gatulefo_scan_start() -> ScanState;
