@@ -34,7 +34,8 @@ for-kind k f held = cond (eqb (kind-number held) (kind-number k)) (option.some f
 abbrev no-kind : {F : Type 0} → Kind → Option F
 no-kind held = option.none
 
-abbrev only : Option (ℕ → ℕ) → Option (ℕ → ℕ → ℕ) → Option (ℕ → ℕ → ℕ → ℕ) → Option (ℕ → ℕ → ℕ) → Option (ℕ → ℕ) → (Kind → Option (ℕ → ℕ)) → Option (ℕ → ℕ → Kind × ℕ) → (Kind → Option (ℕ → ℕ → ℕ → ℕ)) → Families
+abbrev only : Option (ℕ → ℕ) → Option (ℕ → ℕ → ℕ) → Option (ℕ → ℕ → ℕ → ℕ) → Option (ℕ → ℕ → ℕ) → Option (ℕ → ℕ) → (Kind → Option (ℕ → ℕ))
+    → Option (ℕ → ℕ → Kind × ℕ) → (Kind → Option (ℕ → ℕ → ℕ → ℕ)) → Families
 only u b t s e p x r = record { unary = u; binary = b; ternary = t; shift = s; test = e; splat = p; extract = x; replace = r }
 
 abbrev no-family : Families

@@ -37,11 +37,15 @@ all-through : (rs : List ℕ) (later : ℕ) → unless (all-registers rs) 3 late
 all-through [] later = refl
 all-through (r ∷ rs) later = both (leb r 15) (all-registers rs) 3 later ∙ ap (unless (leb r 15) 3) (all-through rs later)
 
-in-order : (p : Profile) (k : Kind) (s : List ℕ) → p .has-step ≡ true → refusal p k s ≡ through (used p s) (unless (ltb (lane s) (p .lane-count)) 4 (unless (cond (p .shuffles) (legal (indices s)) true) 5 (unless (right-kind (p .reads) k) 6 0)))
+in-order : (p : Profile) (k : Kind) (s : List ℕ) → p .has-step ≡ true → refusal p k s
+    ≡ through (used p s) (unless (ltb (lane s) (p .lane-count)) 4
+    (unless (cond (p .shuffles) (legal (indices s)) true) 5 (unless (right-kind (p .reads) k) 6 0)))
 unfolding refusal
 in-order p k s h = rw h (all-through (used p s) _)
 
-pub judged : {shape : Shape} (x : Shape) (k : Kind) (s : List ℕ) {r : ℕ} → shape ≡ x → profile-of x .has-step ≡ true → r ≡ through (used (profile-of x) s) (unless (ltb (lane s) (profile-of x .lane-count)) 4 (unless (cond (profile-of x .shuffles) (legal (indices s)) true) 5 (unless (right-kind (profile-of x .reads) k) 6 0))) → r ≡ refusal (profile-of shape) k s
+pub judged : {shape : Shape} (x : Shape) (k : Kind) (s : List ℕ) {r : ℕ} → shape ≡ x → profile-of x .has-step ≡ true → r
+    ≡ through (used (profile-of x) s) (unless (ltb (lane s) (profile-of x .lane-count)) 4
+    (unless (cond (profile-of x .shuffles) (legal (indices s)) true) 5 (unless (right-kind (profile-of x .reads) k) 6 0))) → r ≡ refusal (profile-of shape) k s
 judged x k s e h q = rw (e, in-order (profile-of x) k s h) q
 
 -- one test after the other: what the code's test says is the definition's, where what is tested is and what the later ones say is

@@ -40,7 +40,8 @@ stepped m go x = after x (λ next. counting 1 (go next)) (λ n. nothing-done m (
 
 one-before : (left b : ℕ) (list : List ℕ) (e : Ending) → counting 1 (onward left b (drop 32 list) e) ≡ onward (suc left) b list (counting 1 e)
 one-before left b list e = by (e .outcome) where
-  by : (o : Outcome) → counting 1 (resumed o (λ q. steps (left - e .done) b q (drop (32 * e .done) (drop 32 list)) (e .machine)) e) ≡ resumed o (λ q. steps (suc left - (1 + e .done)) b q (drop (32 * (1 + e .done)) list) (e .machine)) (counting 1 e)
+  by : (o : Outcome) → counting 1 (resumed o (λ q. steps (left - e .done) b q (drop (32 * e .done) (drop 32 list)) (e .machine)) e)
+      ≡ resumed o (λ q. steps (suc left - (1 + e .done)) b q (drop (32 * (1 + e .done)) list) (e .machine)) (counting 1 e)
   by ended = refl
   by (stopped n) = refl
   by (paused q) =
@@ -59,7 +60,9 @@ again (suc left) zero b place list m =
 again (suc left) (suc a) b place list m =
     let z : suc a + b ≡ suc (a + b) = omega arith in
     rw z (by (λ next. again left a b (suc place) (drop 32 list) next) (step place m (take 32 list))) where
-      by : ((next : Machine) → steps left (a + b) (suc place) (drop 32 list) next ≡ onward left b (drop 32 list) (steps left a (suc place) (drop 32 list) next)) → (x : Answer Machine) → stepped m (steps left (a + b) (suc place) (drop 32 list)) x ≡ onward (suc left) b list (stepped m (steps left a (suc place) (drop 32 list)) x)
+      by : ((next : Machine) → steps left (a + b) (suc place) (drop 32 list) next
+          ≡ onward left b (drop 32 list) (steps left a (suc place) (drop 32 list) next)) → (x : Answer Machine)
+          → stepped m (steps left (a + b) (suc place) (drop 32 list)) x ≡ onward (suc left) b list (stepped m (steps left a (suc place) (drop 32 list)) x)
       by h (given next) = ap (counting 1) (h next) ∙ one-before left b list (steps left a (suc place) (drop 32 list) next)
       by h (refused n) = refl
 
@@ -70,7 +73,8 @@ enough zero limit place list m l = refl
 enough (suc left) zero place list m l = absurd (omega arith)
 enough (suc left) (suc limit) place list m l =
     by (λ next. enough left limit (suc place) (drop 32 list) next (omega arith)) (step place m (take 32 list)) where
-      by : ((next : Machine) → steps left limit (suc place) (drop 32 list) next ≡ steps left left (suc place) (drop 32 list) next) → (x : Answer Machine) → stepped m (steps left limit (suc place) (drop 32 list)) x ≡ stepped m (steps left left (suc place) (drop 32 list)) x
+      by : ((next : Machine) → steps left limit (suc place) (drop 32 list) next ≡ steps left left (suc place) (drop 32 list) next) → (x : Answer Machine)
+          → stepped m (steps left limit (suc place) (drop 32 list)) x ≡ stepped m (steps left left (suc place) (drop 32 list)) x
       by h (given next) = ap (counting 1) (h next)
       by h (refused n) = refl
 
@@ -97,7 +101,9 @@ smaller zero (suc limit) place list m = least-none limit
 smaller (suc left) zero place list m = least-zero (steps (suc left) (suc left) place list m .done)
 smaller (suc left) (suc limit) place list m =
     by (λ next. smaller left limit (suc place) (drop 32 list) next) (step place m (take 32 list)) where
-      by : ((next : Machine) → steps left limit (suc place) (drop 32 list) next .done ≡ least limit (steps left left (suc place) (drop 32 list) next .done)) → (x : Answer Machine) → stepped m (steps left limit (suc place) (drop 32 list)) x .done ≡ least (suc limit) (stepped m (steps left left (suc place) (drop 32 list)) x .done)
+      by : ((next : Machine) → steps left limit (suc place) (drop 32 list) next .done ≡ least limit (steps left left (suc place) (drop 32 list) next .done))
+          → (x : Answer Machine) → stepped m (steps left limit (suc place) (drop 32 list)) x .done
+          ≡ least (suc limit) (stepped m (steps left left (suc place) (drop 32 list)) x .done)
       by h (given next) = ap (λ (n : ℕ). 1 + n) (h next) ∙ next-least limit (steps left left (suc place) (drop 32 list) next .done)
       by h (refused n) = least-none limit
 
@@ -116,7 +122,8 @@ pub record At (left limit place q done : ℕ) : Type 0 where
   pub all-done : done ≡ limit
   pub more : limit < left
 
-pub pauses : (left limit place : ℕ) (list : List ℕ) (m : Machine) (q : ℕ) → steps left limit place list m .outcome ≡ paused q → At left limit place q (steps left limit place list m .done)
+pub pauses : (left limit place : ℕ) (list : List ℕ) (m : Machine) (q : ℕ) → steps left limit place list m .outcome ≡ paused q
+    → At left limit place q (steps left limit place list m .done)
 unfolding steps
 pauses zero limit place list m q e = absurd (let z : _≡_ {A = ℕ} 0 1 = cc in omega arith)
 pauses (suc left) zero place list m q e =
@@ -124,7 +131,10 @@ pauses (suc left) zero place list m q e =
     record { there = omega arith; all-done = refl; more = omega arith }
 pauses (suc left) (suc limit) place list m q e =
     by (λ next. pauses left limit (suc place) (drop 32 list) next q) (step place m (take 32 list)) e where
-      by : ((next : Machine) → steps left limit (suc place) (drop 32 list) next .outcome ≡ paused q → At left limit (suc place) q (steps left limit (suc place) (drop 32 list) next .done)) → (x : Answer Machine) → stepped m (steps left limit (suc place) (drop 32 list)) x .outcome ≡ paused q → At (suc left) (suc limit) place q (stepped m (steps left limit (suc place) (drop 32 list)) x .done)
+      by : ((next : Machine) → steps left limit (suc place) (drop 32 list) next .outcome ≡ paused q
+          → At left limit (suc place) q (steps left limit (suc place) (drop 32 list) next .done)) → (x : Answer Machine)
+          → stepped m (steps left limit (suc place) (drop 32 list)) x .outcome ≡ paused q
+          → At (suc left) (suc limit) place q (stepped m (steps left limit (suc place) (drop 32 list)) x .done)
       by h (given next) k =
           let i = h next k in
           record { there = omega (arith, i .there); all-done = omega (arith, i .all-done); more = omega (arith, i .more) }
@@ -150,7 +160,8 @@ fits n place limit h =
 accepted : (n place limit : ℕ) → limit ≤ 256 → Fits n place → list-refusal n place limit ≡ 0
 accepted n place limit l f = rw (le-leb limit 256 l, f .whole, le-leb place (n / 32) (f .inside))
 
-pub runs : (list : List ℕ) (place limit : ℕ) (m : Machine) → limit ≤ 256 → Fits (length list) place → run list place limit m ≡ steps (length list / 32 - place) limit place (drop (32 * place) list) (taken-up place m)
+pub runs : (list : List ℕ) (place limit : ℕ) (m : Machine) → limit ≤ 256 → Fits (length list) place → run list place limit m
+    ≡ steps (length list / 32 - place) limit place (drop (32 * place) list) (taken-up place m)
 unfolding run
 runs list place limit m l f = rw (accepted (length list) place limit l f)
 
@@ -166,12 +177,14 @@ sum [] = 0
 sum (l ∷ ls) = l + sum ls
 
 -- Limits that no list reaches count as one.
-together : (left limit x place : ℕ) (part : List ℕ) (m : Machine) → left ≤ 256 → steps left (limit + least 256 x) place part m ≡ steps left (least 256 (limit + x)) place part m
+together : (left limit x place : ℕ) (part : List ℕ) (m : Machine) → left ≤ 256 → steps left (limit + least 256 x) place part m
+    ≡ steps left (least 256 (limit + x)) place part m
 together left limit x place part m h = of (leb 256 x) (leb 256 (limit + x)) refl refl where
   same : (a b : ℕ) → 256 ≤ a → 256 ≤ b → steps left a place part m ≡ steps left b place part m
   same a b i j = enough left a place part m (omega arith) ∙ sym (enough left b place part m (omega arith))
 
-  of : (s t : Bool) → leb 256 x ≡ s → leb 256 (limit + x) ≡ t → steps left (limit + cond s 256 x) place part m ≡ steps left (cond t 256 (limit + x)) place part m
+  of : (s t : Bool) → leb 256 x ≡ s → leb 256 (limit + x) ≡ t → steps left (limit + cond s 256 x) place part m
+      ≡ steps left (cond t 256 (limit + x)) place part m
   of true true e g = same (limit + 256) 256 (omega arith) (omega arith)
   of true false e g = absurd (omega (arith, leb-true 256 x e, leb-false 256 (limit + x) g))
   of false true e g = same (limit + x) 256 (omega (arith, leb-true 256 (limit + x) g)) (omega arith)
@@ -180,12 +193,14 @@ together left limit x place part m h = of (leb 256 x) (leb 256 (limit + x)) refl
 -- One turn: steps that go on, where they are paused, as steps under another limit would, are steps under both.
 turned : (left limit b place : ℕ) (part : List ℕ) (m : Machine) (next : ℕ → Machine → Ending)
     → ((q : ℕ) (k : Machine) → q ≡ place + limit → limit < left → next q k ≡ steps (left - limit) b q (drop (32 * limit) part) k)
-    → resumed (steps left limit place part m .outcome) (λ q. next q (steps left limit place part m .machine)) (steps left limit place part m) ≡ steps left (limit + b) place part m
+    → resumed (steps left limit place part m .outcome) (λ q. next q (steps left limit place part m .machine)) (steps left limit place part m)
+    ≡ steps left (limit + b) place part m
 turned left limit b place part m next goes =
     of (steps left limit place part m) (pauses left limit place part m) (steps left limit place part m .outcome) refl
     ∙ sym (again left limit b place part m)
   where
-    of : (e : Ending) → ((q : ℕ) → e .outcome ≡ paused q → At left limit place q (e .done)) → (o : Outcome) → e .outcome ≡ o → resumed (e .outcome) (λ q. next q (e .machine)) e ≡ onward left b part e
+    of : (e : Ending) → ((q : ℕ) → e .outcome ≡ paused q → At left limit place q (e .done)) → (o : Outcome) → e .outcome ≡ o
+        → resumed (e .outcome) (λ q. next q (e .machine)) e ≡ onward left b part e
     of e at ended g = rw g
     of e at (stopped k) g = rw g
     of e at (paused q) g =
@@ -198,13 +213,15 @@ Limit l = (0 < l) × (l ≤ 256)
 
 one-turn : (list : List ℕ) (limit x place : ℕ) (m : Machine) (next : ℕ → Machine → Ending) → Limit limit → Fits (length list) place
     → ((q : ℕ) (k : Machine) → next q k ≡ run list q (least 256 x) k)
-    → resumed (run list place limit m .outcome) (λ q. next q (run list place limit m .machine)) (run list place limit m) ≡ run list place (least 256 (limit + x)) m
+    → resumed (run list place limit m .outcome) (λ q. next q (run list place limit m .machine)) (run list place limit m)
+    ≡ run list place (least 256 (limit + x)) m
 one-turn list limit x place m next h f goes =
     rw (runs list place limit m (h .1) f, runs list place (least 256 (limit + x)) m (least-low 256 (limit + x)) f)
     (turned (length list / 32 - place) limit (least 256 x) place (drop (32 * place) list) (taken-up place m) next on
     ∙ together (length list / 32 - place) limit x place (drop (32 * place) list) (taken-up place m) (omega (arith, f .short)))
   where
-    on : (q : ℕ) (k : Machine) → q ≡ place + limit → limit < length list / 32 - place → next q k ≡ steps (length list / 32 - place - limit) (least 256 x) q (drop (32 * limit) (drop (32 * place) list)) k
+    on : (q : ℕ) (k : Machine) → q ≡ place + limit → limit < length list / 32 - place → next q k
+        ≡ steps (length list / 32 - place - limit) (least 256 x) q (drop (32 * limit) (drop (32 * place) list)) k
     on q k e more =
         let there : Fits (length list) q = record { whole = f .whole; short = f .short; inside = omega arith } in
         let later : eqb q 0 ≡ false = ne-eqb q 0 (λ z. omega (arith, h .0)) in
@@ -223,22 +240,31 @@ alone x h = of (leb 256 (x + 0)) refl where
   of false e = omega arith
 
 -- A list that is refused under one limit up to 256 is refused in the same way under any other.
-refused-alike : (list : List ℕ) (place a b : ℕ) (m : Machine) → a ≤ 256 → b ≤ 256 → eqb (list-refusal (length list) place a) 0 ≡ false → run list place b m ≡ nothing-done m (stopped (list-refusal (length list) place a))
+refused-alike : (list : List ℕ) (place a b : ℕ) (m : Machine) → a ≤ 256 → b ≤ 256 → eqb (list-refusal (length list) place a) 0 ≡ false → run list place b m
+    ≡ nothing-done m (stopped (list-refusal (length list) place a))
 unfolding run
 refused-alike list place a b m h k e =
     let r : list-refusal (length list) place b ≡ list-refusal (length list) place a = rw (le-leb a 256 h, le-leb b 256 k) in
     rw (r, e)
 
 -- "pausing and taking up the same list at the place reported with the state left, any number of times with limits above 0": a run under the limits' sum
-pub as-one : (list ls : List ℕ) (limit place : ℕ) (m : Machine) → Limit limit → Limits ls → in-turns list limit ls place m ≡ run list place (least 256 (limit + sum ls)) m
+pub as-one : (list ls : List ℕ) (limit place : ℕ) (m : Machine) → Limit limit → Limits ls → in-turns list limit ls place m
+    ≡ run list place (least 256 (limit + sum ls)) m
 unfolding in-turns
 as-one list [] limit place m h w = ap (λ (n : ℕ). run list place n m) (sym (alone limit (h .1)))
 as-one list (l ∷ ls) limit place m h w =
     by (λ q k. as-one list ls l q k (w .0) (w .1)) (eqb (list-refusal (length list) place limit) 0) refl where
-      by : ((q : ℕ) (k : Machine) → in-turns list l ls q k ≡ run list q (least 256 (l + sum ls)) k) → (t : Bool) → eqb (list-refusal (length list) place limit) 0 ≡ t → resumed (run list place limit m .outcome) (λ q. in-turns list l ls q (run list place limit m .machine)) (run list place limit m) ≡ run list place (least 256 (limit + (l + sum ls))) m
+      by : ((q : ℕ) (k : Machine) → in-turns list l ls q k ≡ run list q (least 256 (l + sum ls)) k) → (t : Bool)
+          → eqb (list-refusal (length list) place limit) 0 ≡ t
+          → resumed (run list place limit m .outcome) (λ q. in-turns list l ls q (run list place limit m .machine)) (run list place limit m)
+          ≡ run list place (least 256 (limit + (l + sum ls))) m
       by goes true e = one-turn list limit (l + sum ls) place m (in-turns list l ls) h (fits (length list) place limit (eqb-true _ 0 e)) goes
       by goes false e =
-          rw (refused-alike list place limit limit m (h .1) (h .1) e, refused-alike list place limit (least 256 (limit + (l + sum ls))) m (h .1) (least-low 256 (limit + (l + sum ls))) e)
+          rw (
+            refused-alike list place limit limit m (h .1) (h .1) e,
+            refused-alike list place limit (least 256 (limit + (l + sum ls))) m (h .1)
+                (least-low 256 (limit + (l + sum ls))) e,
+          )
 
 -- A limit that reaches over the steps left is as good as 256.
 full : (list : List ℕ) (place x : ℕ) (m : Machine) → length list / 32 ≤ place + x → run list place (least 256 x) m ≡ run list place 256 m
@@ -253,15 +279,18 @@ full list place x m h = by (eqb (list-refusal (length list) place 256) 0) refl w
   by true e =
       let f = fits (length list) place 256 (eqb-true _ 0 e) in
       rw (runs list place (least 256 x) m (least-low 256 x) f, runs list place 256 m (omega arith) f)
-      (enough (length list / 32 - place) (least 256 x) place (drop (32 * place) list) (taken-up place m) (reaches (length list / 32 - place) (omega (arith, f .short)) (omega arith))
+      (enough (length list / 32 - place) (least 256 x) place (drop (32 * place) list) (taken-up place m)
+      (reaches (length list / 32 - place) (omega (arith, f .short)) (omega arith))
       ∙ sym (enough (length list / 32 - place) 256 place (drop (32 * place) list) (taken-up place m) (omega (arith, f .short))))
   by false e =
       rw (refused-alike list place 256 (least 256 x) m (omega arith) (least-low 256 x) e, refused-alike list place 256 256 m (omega arith) (omega arith) e)
 
 -- A run that is not paused is the run under limit 256.
-finished : (list : List ℕ) (place a : ℕ) (m : Machine) → a ≤ 256 → ((q : ℕ) → run list place a m .outcome ≡ paused q → ⊥) → run list place a m ≡ run list place 256 m
+finished : (list : List ℕ) (place a : ℕ) (m : Machine) → a ≤ 256 → ((q : ℕ) → run list place a m .outcome ≡ paused q → ⊥) → run list place a m
+    ≡ run list place 256 m
 finished list place a m h unpaused = by (eqb (list-refusal (length list) place a) 0) refl where
-  no-more : (left : ℕ) (part : List ℕ) (k : Machine) → ((q : ℕ) → steps left a place part k .outcome ≡ paused q → ⊥) → steps left a place part k ≡ steps left 256 place part k
+  no-more : (left : ℕ) (part : List ℕ) (k : Machine) → ((q : ℕ) → steps left a place part k .outcome ≡ paused q → ⊥) → steps left a place part k
+      ≡ steps left 256 place part k
   no-more left part k u =
       let z : a + (256 - a) ≡ 256 = omega arith in
       of (steps left a place part k) u (steps left a place part k .outcome) refl ∙ sym (again left a (256 - a) place part k)
@@ -280,7 +309,8 @@ finished list place a m h unpaused = by (eqb (list-refusal (length list) place a
   by false e = rw (refused-alike list place a a m h h e, refused-alike list place a 256 m h (omega arith) e)
 
 -- ".. ends as one run would, the counts added up"
-pub ends-as-one : (list ls : List ℕ) (limit place : ℕ) (m : Machine) → Limit limit → Limits ls → ((q : ℕ) → in-turns list limit ls place m .outcome ≡ paused q → ⊥) → in-turns list limit ls place m ≡ run list place 256 m
+pub ends-as-one : (list ls : List ℕ) (limit place : ℕ) (m : Machine) → Limit limit → Limits ls
+    → ((q : ℕ) → in-turns list limit ls place m .outcome ≡ paused q → ⊥) → in-turns list limit ls place m ≡ run list place 256 m
 ends-as-one list ls limit place m h w unpaused =
     let r = as-one list ls limit place m h w in
     r ∙ finished list place (least 256 (limit + sum ls)) m (least-low 256 (limit + sum ls)) (λ q g. unpaused q (ap (λ (x : Ending). x .outcome) r ∙ g))
@@ -290,7 +320,8 @@ each-adds : (ls : List ℕ) → Limits ls → length ls ≤ sum ls
 each-adds [] w = omega arith
 each-adds (l ∷ ls) w = omega (arith, each-adds ls (w .1), w .0 .0)
 
-pub comes-to-an-end : (list ls : List ℕ) (limit place : ℕ) (m : Machine) → Limit limit → Limits ls → length list / 32 ≤ place + suc (length ls) → in-turns list limit ls place m ≡ run list place 256 m
+pub comes-to-an-end : (list ls : List ℕ) (limit place : ℕ) (m : Machine) → Limit limit → Limits ls → length list / 32 ≤ place + suc (length ls)
+    → in-turns list limit ls place m ≡ run list place 256 m
 comes-to-an-end list ls limit place m h w k =
     as-one list ls limit place m h w ∙ full list place (limit + sum ls) m (omega (arith, each-adds ls w, h .0))
 
@@ -311,7 +342,12 @@ counted list place limit m h = by (eqb (list-refusal (length list) place limit) 
   by : (t : Bool) → eqb (list-refusal (length list) place limit) 0 ≡ t → run list place limit m .done ≡ least limit (run list place 256 m .done)
   by true e =
       let f = fits (length list) place limit (eqb-true _ 0 e) in
-      rw (runs list place limit m h f, runs list place 256 m (omega arith) f, enough (length list / 32 - place) 256 place (drop (32 * place) list) (taken-up place m) (omega (arith, f .short)))
+      rw (
+        runs list place limit m h f,
+        runs list place 256 m (omega arith) f,
+        enough (length list / 32 - place) 256 place (drop (32 * place) list)
+            (taken-up place m) (omega (arith, f .short)),
+      )
       (smaller (length list / 32 - place) limit place (drop (32 * place) list) (taken-up place m))
   by false e =
       rw (refused-alike list place limit limit m h h e, refused-alike list place limit 256 m h (omega arith) e) (none limit) where
@@ -323,14 +359,20 @@ counted list place limit m h = by (eqb (list-refusal (length list) place limit) 
 pub never-above : (list : List ℕ) (place limit : ℕ) (m : Machine) → run list place limit m .done ≤ limit
 unfolding run
 never-above list place limit m = by (eqb (list-refusal (length list) place limit) 0) where
-  by : (t : Bool) → cond t (steps (length list / 32 - place) limit place (drop (32 * place) list) (taken-up place m)) (nothing-done m (stopped (list-refusal (length list) place limit))) .done ≤ limit
+  by : (t : Bool) → cond t (steps (length list / 32 - place) limit place (drop (32 * place) list) (taken-up place m))
+      (nothing-done m (stopped (list-refusal (length list) place limit))) .done ≤ limit
   by true = limited (length list / 32 - place) limit place (drop (32 * place) list) (taken-up place m)
   by false = omega arith
 
 -- A run is paused at the limit, and only with steps left.
-pub moves-on : (list : List ℕ) (place limit : ℕ) (m : Machine) (q : ℕ) → run list place limit m .outcome ≡ paused q → At (length list / 32 - place) limit place q (run list place limit m .done)
+pub moves-on : (list : List ℕ) (place limit : ℕ) (m : Machine) (q : ℕ) → run list place limit m .outcome ≡ paused q
+    → At (length list / 32 - place) limit place q (run list place limit m .done)
 unfolding run
 moves-on list place limit m q = by (eqb (list-refusal (length list) place limit) 0) where
-  by : (t : Bool) → cond t (steps (length list / 32 - place) limit place (drop (32 * place) list) (taken-up place m)) (nothing-done m (stopped (list-refusal (length list) place limit))) .outcome ≡ paused q → At (length list / 32 - place) limit place q (cond t (steps (length list / 32 - place) limit place (drop (32 * place) list) (taken-up place m)) (nothing-done m (stopped (list-refusal (length list) place limit))) .done)
+  by : (t : Bool) → cond t (steps (length list / 32 - place) limit place (drop (32 * place) list) (taken-up place m))
+      (nothing-done m (stopped (list-refusal (length list) place limit))) .outcome ≡ paused q
+      → At (length list / 32 - place) limit place q
+      (cond t (steps (length list / 32 - place) limit place (drop (32 * place) list) (taken-up place m))
+      (nothing-done m (stopped (list-refusal (length list) place limit))) .done)
   by true g = pauses (length list / 32 - place) limit place (drop (32 * place) list) (taken-up place m) q g
   by false g = absurd (let z : _≡_ {A = ℕ} 0 1 = cc in omega arith)

@@ -48,7 +48,8 @@ not-passed (ks ∷ kss) k x y p = other (hasKey ks k) (λ h. p .1 (hit ks k h)) 
   other true n e = absurd (n tt)
   other false n e = e
 
-rest-at : (kss : List (List ℕ)) (x : Shape) (lo k : ℕ) (ys : List Shape) {op : ℕ} → lo + k ≡ op → Past kss op → getD (rest-of kss x lo ys) k Shape.None ≡ getD ys k Shape.None
+rest-at : (kss : List (List ℕ)) (x : Shape) (lo k : ℕ) (ys : List Shape) {op : ℕ} → lo + k ≡ op → Past kss op → getD (rest-of kss x lo ys) k Shape.None
+    ≡ getD ys k Shape.None
 rest-at kss x lo k [] e p = refl
 rest-at kss x lo zero (y ∷ ys) e p =
     let q : lo ≡ _ = sym (add-zero lo) ∙ e in
@@ -56,7 +57,8 @@ rest-at kss x lo zero (y ∷ ys) e p =
 rest-at kss x lo (suc k) (y ∷ ys) {op} e p = rest-at kss x (suc lo) k ys (omega arith) p
 
 -- n numbers of one shape, from lo on, but for the single numbers
-pub inside : (kss : List (List ℕ)) (x : Shape) (lo n : ℕ) {op : ℕ} → rest-of kss x lo (take n (drop lo shapes)) ≡ replicate n x → Past kss op → lo ≤ op → op < lo + n → x ≡ shape (instruction op)
+pub inside : (kss : List (List ℕ)) (x : Shape) (lo n : ℕ) {op : ℕ} → rest-of kss x lo (take n (drop lo shapes)) ≡ replicate n x → Past kss op → lo ≤ op
+    → op < lo + n → x ≡ shape (instruction op)
 inside kss x lo n {op} e p l u =
     let k : op - lo < n = omega arith in
     let q : lo + (op - lo) ≡ op = omega arith in
@@ -64,7 +66,8 @@ inside kss x lo n {op} e p l u =
     ∙ rest-at kss x lo (op - lo) (take n (drop lo shapes)) q p ∙ rw (getD-take, getD-drop, q) (shape-at op)
 
 -- from lo to the table's end, and past it, but for the single numbers
-pub onward : (kss : List (List ℕ)) (lo n : ℕ) {op : ℕ} → rest-of kss Shape.None lo (drop lo shapes) ≡ replicate n Shape.None → Past kss op → lo ≤ op → Shape.None ≡ shape (instruction op)
+pub onward : (kss : List (List ℕ)) (lo n : ℕ) {op : ℕ} → rest-of kss Shape.None lo (drop lo shapes) ≡ replicate n Shape.None → Past kss op → lo ≤ op
+    → Shape.None ≡ shape (instruction op)
 onward kss lo n {op} e p l =
     let q : lo + (op - lo) ≡ op = omega arith in
     sym (alike Shape.None n (op - lo)) ∙ ap (λ (xs : List Shape). getD xs (op - lo) Shape.None) (sym e)

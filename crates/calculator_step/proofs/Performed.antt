@@ -94,10 +94,13 @@ pub done : (i : Instruction) (place : ℕ) (m : Machine) (s : List ℕ) → refu
 done i place m s h = leaves i place m s (passed (profile i) (m .kind) s h)
 
 -- the scalar alone, and a vector in the destination
-pub another-scalar : (w n : List ℕ) (r : Scalar) {x : Kind × ℕ} → scalar-of r ≡ x → held w n r ≡ record { registers = vectors w; writers = n; kind = x .0; bits = x .1 }
+pub another-scalar : (w n : List ℕ) (r : Scalar) {x : Kind × ℕ} → scalar-of r ≡ x → held w n r
+    ≡ record { registers = vectors w; writers = n; kind = x .0; bits = x .1 }
 another-scalar w n r e = ap (λ (x : Kind × ℕ). record { registers = vectors w; writers = n; kind = x .0; bits = x .1 }) e
 
-pub another-register : {ws vs : List ℕ} (ns : List ℕ) (r : Scalar) → ws ≡ vs → _≡_ {A = Machine} (record { registers = ws; writers = ns; kind = scalar-of r .0; bits = scalar-of r .1 }) (record { registers = vs; writers = ns; kind = scalar-of r .0; bits = scalar-of r .1 })
+pub another-register : {ws vs : List ℕ} (ns : List ℕ) (r : Scalar) → ws ≡ vs
+    → _≡_ {A = Machine} (record { registers = ws; writers = ns; kind = scalar-of r .0; bits = scalar-of r .1 })
+    (record { registers = vs; writers = ns; kind = scalar-of r .0; bits = scalar-of r .1 })
 another-register ns r e = rw e
 
 -- the shapes whose vector is written, as a match's last arm says it
@@ -118,7 +121,8 @@ stored (Shape.Extract n) i m s h = absurd (miss writing 9 tt h)
 stored (Shape.Replace n k) i m s h = refl
 
 -- a step whose operation's shape is x, where the judge says r
-module _ (place : ℕ) (m : Machine) (s : List ℕ) (op r : ℕ) (x : Shape) (o : op ≡ operation s) (d : x ≡ shape (instruction op)) (j : r ≡ refusal (profile-of x) (m .kind) s) where
+module _ (place : ℕ) (m : Machine) (s : List ℕ) (op r : ℕ) (x : Shape) (o : op ≡ operation s) (d : x ≡ shape (instruction op))
+    (j : r ≡ refusal (profile-of x) (m .kind) s) where
   judged : refusal (profile (instruction op)) (m .kind) s ≡ r
   judged = sym (j ∙ rw (d, profile-kept))
 

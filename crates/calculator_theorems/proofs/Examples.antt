@@ -143,7 +143,8 @@ shift-cases =
     ∷ record { op = 107; scalar = 8; expected = lane }
     ∷ []
 
-pub shifts-hold : map (λ (c : Shift). step 0 (holding 0 0 (c .scalar)) (a-shift (c .op))) shift-cases ≡ map (λ (c : Shift). given (holding (c .expected) 1 (c .scalar))) shift-cases
+pub shifts-hold : map (λ (c : Shift). step 0 (holding 0 0 (c .scalar)) (a-shift (c .op))) shift-cases
+    ≡ map (λ (c : Shift). given (holding (c .expected) 1 (c .scalar))) shift-cases
 unfolding holding a-shift shift-cases step refusal effect instruction table unary
 shifts-hold = refl
 

@@ -21,5 +21,6 @@ pub marks-unseen : (a b : List ℕ) → MarksApart a b → (place limit : ℕ) (
 marks-unseen a b apart = unread-unseen a b (record { long = apart .long; same = λ i n. apart .same i (λ e. n (omega arith) (omega arith)) })
 
 -- the code's runs of the two lists, whose promises these are; the program `lanes` runs from place 0 under limit 256
-pub runs-alike : (a b : List ℕ) → MarksApart a b → (place limit : ℕ) (state : State) (r q : code.Ending) → ending-of r ≡ run a place limit (machine state) → ending-of q ≡ run b place limit (machine state) → ending-of r ≡ ending-of q
+pub runs-alike : (a b : List ℕ) → MarksApart a b → (place limit : ℕ) (state : State) (r q : code.Ending) → ending-of r ≡ run a place limit (machine state)
+    → ending-of q ≡ run b place limit (machine state) → ending-of r ≡ ending-of q
 runs-alike a b apart place limit state r q h k = h ∙ marks-unseen a b apart place limit (machine state) ∙ sym k

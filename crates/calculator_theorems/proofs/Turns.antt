@@ -29,12 +29,15 @@ abbrev pub total : Ending → List Ending → definition.Ending
 total r [] = ending-of r
 total r (q ∷ qs) = counting (r .done) (total q qs)
 
-turns : (list : List ℕ) (place : ℕ) (state : State) (limit : ℕ) (ls : List ℕ) (r : Ending) (qs : List Ending) → Follow list place state limit ls r qs → total r qs ≡ in-turns list limit ls place (machine state)
+turns : (list : List ℕ) (place : ℕ) (state : State) (limit : ℕ) (ls : List ℕ) (r : Ending) (qs : List Ending) → Follow list place state limit ls r qs
+    → total r qs ≡ in-turns list limit ls place (machine state)
 unfolding in-turns
 turns list place state limit [] r [] h = h
 turns list place state limit (l ∷ ls) r (q ∷ qs) h =
     of (r .outcome) refl (h .1) (λ at. turns list at (r .state) l ls q qs) where
-      of : (o : Outcome) → r .outcome ≡ o → WherePaused o (λ at. Follow list at (r .state) l ls q qs) → ((at : ℕ) → Follow list at (r .state) l ls q qs → total q qs ≡ in-turns list l ls at (machine (r .state))) → counting (r .done) (total q qs) ≡ in-turns list limit (l ∷ ls) place (machine state)
+      of : (o : Outcome) → r .outcome ≡ o → WherePaused o (λ at. Follow list at (r .state) l ls q qs)
+          → ((at : ℕ) → Follow list at (r .state) l ls q qs → total q qs ≡ in-turns list l ls at (machine (r .state))) → counting (r .done) (total q qs)
+          ≡ in-turns list limit (l ∷ ls) place (machine state)
       of Outcome.Ended e w go = absurd w
       of (Outcome.Refused n) e w go = absurd w
       of (Outcome.Paused at) e w go = rw (← h .0, e) (ap (counting (r .done)) (go at w))
@@ -43,7 +46,8 @@ turns list place state limit (l ∷ ls) r [] h = absurd h
 
 -- Runs under limits above 0, the last of which is not paused, leave what one run under limit 256 leaves, registers, numbers, scalar, refusal and all, the
 -- counts added up.
-pub turns-as-one : (list : List ℕ) (place : ℕ) (state : State) (limit : ℕ) (ls : List ℕ) (r : Ending) (qs : List Ending) → Limit limit → Limits ls → Follow list place state limit ls r qs → ((at : ℕ) → total r qs .outcome ≡ paused at → ⊥)
+pub turns-as-one : (list : List ℕ) (place : ℕ) (state : State) (limit : ℕ) (ls : List ℕ) (r : Ending) (qs : List Ending) → Limit limit → Limits ls
+    → Follow list place state limit ls r qs → ((at : ℕ) → total r qs .outcome ≡ paused at → ⊥)
     → (single : Ending) → ending-of single ≡ run list place 256 (machine state) → total r qs ≡ ending-of single
 turns-as-one list place state limit ls r qs h w f unpaused single s =
     let t = turns list place state limit ls r qs f in

@@ -79,4 +79,8 @@ steps-alike (suc left) (suc limit) place a b apart m =
 pub unread-unseen : (a b : List ℕ) → UnreadApart a b → (place limit : ℕ) (m : Machine) → run a place limit m ≡ run b place limit m
 unfolding run
 unread-unseen a b apart place limit m =
-    rw (apart .long, steps-alike (length b / 32 - place) limit place (drop (32 * place) a) (drop (32 * place) b) (rest-alike a b place apart) (taken-up place m))
+    rw (
+      apart .long,
+      steps-alike (length b / 32 - place) limit place (drop (32 * place) a) (drop (32 * place) b) (rest-alike a b place apart)
+          (taken-up place m),
+    )

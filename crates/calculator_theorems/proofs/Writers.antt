@@ -95,8 +95,10 @@ runs-to r (suc left) zero place part m h = refl
 runs-to r (suc left) (suc limit) place part m h = by (step place m (take 32 part)) refl (λ next. runs-to r left limit (suc place) (drop 32 part) next)
   where
     by : (x : Answer Machine) → step place m (take 32 part) ≡ x
-        → ((next : Machine) → r < length (next .writers) → getD (steps left limit (suc place) (drop 32 part) next .machine .writers) r 0 ≡ number-after r (steps left limit (suc place) (drop 32 part) next .done) (suc place) (drop 32 part) (getD (next .writers) r 0))
-        → getD (ending left limit place part m x .machine .writers) r 0 ≡ number-after r (ending left limit place part m x .done) place part (getD (m .writers) r 0)
+        → ((next : Machine) → r < length (next .writers) → getD (steps left limit (suc place) (drop 32 part) next .machine .writers) r 0
+        ≡ number-after r (steps left limit (suc place) (drop 32 part) next .done) (suc place) (drop 32 part) (getD (next .writers) r 0))
+        → getD (ending left limit place part m x .machine .writers) r 0
+        ≡ number-after r (ending left limit place part m x .done) place part (getD (m .writers) r 0)
     by (refused n) e go = refl
     by (given next) e go =
         let one = numbered r place m next (take 32 part) h e in
@@ -130,7 +132,14 @@ module _ (r place done : ℕ) (part : List ℕ) where
       none : (i : ℕ) → i < suc done → writes r (part-at part i) ≡ false
       none zero h = e
       none (suc i) h = ap (writes r) (sym (next-part part i)) ∙ k .none i (omega arith)
-  first true e v n k = inr (record { i = 0; before = omega arith; number = k .same ∙ (let z : suc place ≡ suc (place + 0) = omega arith in z); does = e; none-after = later })
+  first true e v n k = inr (record {
+    i = 0;
+    before = omega arith;
+    number = k .same
+        ∙ (let z : suc place ≡ suc (place + 0) = omega arith in z);
+    does = e;
+    none-after = later;
+  })
     where
       later : (j : ℕ) → 0 < j → j < suc done → writes r (part-at part j) ≡ false
       later zero l h = absurd (omega arith)
@@ -154,7 +163,8 @@ kept-or-set : (r done place : ℕ) (part : List ℕ) (n : ℕ)
     → Kept r done part n (number-after r done place part n) ⊎ Set r done place part (number-after r done place part n)
 kept-or-set r zero place part n = inl (record { same = refl; none = λ i h. absurd (not-suc-le-zero h) })
 kept-or-set r (suc done) place part n =
-    ⊎-elim (first r place done part (writes r (take 32 part)) refl _ n) (λ s. inr (further r place done part _ s)) (kept-or-set r done (suc place) (drop 32 part) (cond (writes r (take 32 part)) (suc place) n))
+    ⊎-elim (first r place done part (writes r (take 32 part)) refl _ n) (λ s. inr (further r place done part _ s))
+    (kept-or-set r done (suc place) (drop 32 part) (cond (writes r (take 32 part)) (suc place) n))
 
 -- ---- a run from the list's start
 

@@ -47,5 +47,6 @@ module _ (m t L : ℕ) (X : List ℕ) where
     pub never-both : (p d e : ℕ) (r q : Scan) → Told m t L X window s (Next.Met p d e r) → Told m t L X window s (Next.More q) → ⊥
     never-both p d e r q one two =
         let before : place r ≤ place q = omega (arith, one .0 .reached, two .3) in
-        let most = ap length (sym (two .1) ∙ grows r q before ∙ ap (λ (z : List Meeting). z ++ all-from (bits X) (mark m) t L (place q - place r) (0 + place r)) (one .1)) in
+        let most = ap length (sym (two .1) ∙ grows r q before
+        ∙ ap (λ (z : List Meeting). z ++ all-from (bits X) (mark m) t L (place q - place r) (0 + place r)) (one .1)) in
         omega (arith, simp length-append at most)

@@ -60,7 +60,8 @@ module _ (m : List ℕ) (t L : ℕ) where
         ≡ all-from (bits X) m t L (8 * before + from) 0 ++ shift (8 * before) (all-from (bits W) m t L n from)
     on n =
         parts m t L (bits X) (8 * before + from) n 0
-        ∙ ap (λ (z : List Meeting). all-from (bits X) m t L (8 * before + from) 0 ++ z) (ap (all-from (bits X) m t L n) (zero-add (8 * before + from)) ∙ over n from)
+        ∙ ap (λ (z : List Meeting). all-from (bits X) m t L (8 * before + from) 0 ++ z)
+        (ap (all-from (bits X) m t L n) (zero-add (8 * before + from)) ∙ over n from)
 
     pub met-more : (n q d e : ℕ) → first-from (bits W) m t L n from ≡ found q d e
         → all-from (bits X) m t L (8 * before + (q + 1)) 0 ≡ all-from (bits X) m t L (8 * before + from) 0 ++ (met (8 * before + q) d e ∷ [])
@@ -121,7 +122,8 @@ module _ (m t L : ℕ) (X window : List ℕ) (s : Scan) (h : Stands L X window s
       let all = h .all in
       let r : Scan = record { before = s .before; filled = s .filled; from = 8 * s .filled - (L + 31) } in (
         record { frame = h .frame; inside = h .inside; all = h .all; few = h .few; tail = h .tail; reached = omega (arith, h .reached) },
-        none-more (mark m) t L X (take (s .filled) window) (s .before) (s .from) (omega arith) (h .tail) k (8 * s .filled - (L + 31)) (omega arith) (rw count at f),
+        none-more (mark m) t L X (take (s .filled) window) (s .before) (s .from) (omega arith) (h .tail) k (8 * s .filled - (L + 31)) (omega arith)
+            (rw count at f),
         complete r (omega arith),
         omega arith,
       )

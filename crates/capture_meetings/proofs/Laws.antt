@@ -86,7 +86,8 @@ module _ (m : List ℕ) (t L : ℕ) where
     where
       by : (b : Bool) → ltb (length s) (c + (L + 31)) ≡ b
           → all-from s m t L (places L (length s)) 0
-          ≡ all-from (take (c + (L + 31)) s) m t L (places L (length (take (c + (L + 31)) s))) 0 ++ shift c (all-from (drop c s) m t L (places L (length (drop c s))) 0)
+          ≡ all-from (take (c + (L + 31)) s) m t L (places L (length (take (c + (L + 31)) s))) 0
+          ++ shift c (all-from (drop c s) m t L (places L (length (drop c s))) 0)
       by true e =
           let short = ltb-true (length s) (c + (L + 31)) e in
           let none : length (drop c s) - (L + 31) ≡ 0 = simp length-drop (omega arith) in

@@ -40,7 +40,14 @@ module _ (s m : List ℕ) (t L : ℕ) where
             first = rw here (cc);
             second = rw here (cc);
           })
-          (λ later. let r = rest later in record { low = omega (arith, r .low); high = omega (arith, r .high); meets = r .meets; first = r .first; second = r .second })
+          (λ later. let r = rest later in record {
+            low = omega (arith, r .low);
+            high = omega
+                (arith, r .high);
+            meets = r .meets;
+            first = r .first;
+            second = r .second;
+          })
           (List·Memᴰ·cases-cons (rw st at h))
       by false st rest =
           let r = rest (rw st at h) in

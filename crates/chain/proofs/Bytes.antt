@@ -52,14 +52,16 @@ length-shuffled is x y = length-map is (λ i. getD (x ++ y) i 0)
 pub shuffle-lt : (is : List ℕ) → length is ≡ 16 → (x y : ℕ) → shuffle is x y < 2 ^ 128
 unfolding shuffle
 shuffle-lt is e x y =
-    subst (λ (n : ℕ). shuffle is x y < 2 ^ (8 * n)) (length-shuffled is (lanes 8 x) (lanes 8 y) ∙ e) (joined-lt 8 (shuffled is (lanes 8 x) (lanes 8 y)) (bytes-below is x y))
+    subst (λ (n : ℕ). shuffle is x y < 2 ^ (8 * n)) (length-shuffled is (lanes 8 x) (lanes 8 y) ∙ e)
+    (joined-lt 8 (shuffled is (lanes 8 x) (lanes 8 y)) (bytes-below is x y))
 
 pub lanes-shuffle : (is : List ℕ) → length is ≡ 16 → (x y : ℕ) → lanes 8 (shuffle is x y) ≡ shuffled is (lanes 8 x) (lanes 8 y)
 unfolding shuffle
 lanes-shuffle is e x y =
     lanes-joined 8 refl (shuffled is (lanes 8 x) (lanes 8 y)) (length-shuffled is (lanes 8 x) (lanes 8 y) ∙ e) (bytes-below is x y)
 
-pub lanes-chained : (links : List (List ℕ)) → Whole links → (a b c : ℕ) → lanes 8 (chained links a b c) ≡ chained-bytes links (lanes 8 a) (lanes 8 b) (lanes 8 c)
+pub lanes-chained : (links : List (List ℕ)) → Whole links → (a b c : ℕ) → lanes 8 (chained links a b c)
+    ≡ chained-bytes links (lanes 8 a) (lanes 8 b) (lanes 8 c)
 unfolding chained
 lanes-chained [] w a b c = refl
 lanes-chained (link ∷ links) (l, w) a b c =

@@ -44,7 +44,8 @@ module _ (links : List (List ℕ)) (k : ℕ) (current : List ℕ) (f : Folding l
       ap (chained (drop (k + 1) links) low-places high-places) shuffled
       ∙ ap (λ (rest : List (List ℕ)). chained rest low-places high-places (joined 8 current)) (sym (one-more d links k h)) in
       let below = picked-below 256 (omega arith) (λ i. i % 32) current beside (indices link) (f .1 .0)
-      (partner-has (Below 256) p (counted 16 0) (counted 16 16) current (counted-below 256 16 0 (omega arith)) (counted-below 256 16 16 (omega arith)) (f .1 .0)) in
+      (partner-has (Below 256) p (counted 16 0) (counted 16 16) current (counted-below 256 16 0 (omega arith)) (counted-below 256 16 16 (omega arith))
+      (f .1 .0)) in
       (e, (rw is below, ap (lanes 8) turn ∙ f .1 .1))
 
   pub ends : length links ≤ k → current ≡ folded links

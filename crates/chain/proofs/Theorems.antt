@@ -72,11 +72,13 @@ legal-list links w = (
   length-digits 8 16 (chained links low-places high-places low-places),
   below-legal (folded links)
       (subst (Below 32) (sym (folded-bytes links w))
-      (chained-below links (counted 16 0) (counted 16 16) (counted 16 0) (counted-below 32 16 0 (omega arith)) (counted-below 32 16 16 (omega arith)) (counted-below 32 16 0 (omega arith)))),
+      (chained-below links (counted 16 0) (counted 16 16) (counted 16 0) (counted-below 32 16 0 (omega arith)) (counted-below 32 16 16 (omega arith))
+      (counted-below 32 16 0 (omega arith)))),
 )
 
 -- "one list of sixteen indices gives the same result by one shuffle of a and b, for all a and b"
-pub one-shuffle : (links : List (List ℕ)) → Whole links → all-legal links ≡ true → (a b : ℕ) → a < 2 ^ 128 → b < 2 ^ 128 → shuffle (folded links) a b ≡ chained links a b a
+pub one-shuffle : (links : List (List ℕ)) → Whole links → all-legal links ≡ true → (a b : ℕ) → a < 2 ^ 128 → b < 2 ^ 128 → shuffle (folded links) a b
+    ≡ chained links a b a
 one-shuffle links w e a b ha hb =
     let byte-of : ℕ → ℕ = λ i. getD (lanes 8 a ++ lanes 8 b) i 0 in
     let sixteen = legal-list links w .0 in

@@ -42,7 +42,8 @@ module _ (links : List (List ℕ)) (a b : ℕ) where
       ap (chained (drop (k + 1) links) a b) (does (link-legal links k d h e))
       ∙ ap (λ (rest : List (List ℕ)). chained rest a b current) (sym (one-more d links k h))
 
-  pub all-links : (k current : ℕ) → length links ≤ k → refusal links ≡ 0 → chained (drop k links) a b current ≡ chained links a b a → given current ≡ applied links a b
+  pub all-links : (k current : ℕ) → length links ≤ k → refusal links ≡ 0 → chained (drop k links) a b current ≡ chained links a b a → given current
+      ≡ applied links a b
   unfolding chained
   all-links k current over unrefused e =
       ap given (ap (λ (rest : List (List ℕ)). chained rest a b current) (sym (drop-of-length-le links over)) ∙ e)

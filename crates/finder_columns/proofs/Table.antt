@@ -26,7 +26,8 @@ piece-lt m q r = mod-lt (m * 256 / 2 ^ (r + 32 - 8 * q)) (lit< tt)
 
 pub differing-lt : (m q r x : ℕ) → x < 256 → differing m q r x < 256
 unfolding differing
-differing-lt m q r x h = xor-lt 8 (bitAnd x (piece 4294967295 q r)) (piece m q r) (and-lt 8 x (piece 4294967295 q r) h (piece-lt 4294967295 q r)) (piece-lt m q r)
+differing-lt m q r x h = xor-lt 8 (bitAnd x (piece 4294967295 q r)) (piece m q r) (and-lt 8 x (piece 4294967295 q r) h (piece-lt 4294967295 q r))
+    (piece-lt m q r)
 
 -- pieces, pushed one after the other below those that stand, from the last to the first
 pub pieces-lt : (m q k n : ℕ) → joined 8 (row (piece m q) k n) < 2 ^ (8 * n)
@@ -49,7 +50,8 @@ module _ (m q r h l : ℕ) (hh : h < 16) (hl : l < 16) where
       let here : (16 * h + l) / 16 ≡ 16 * h / 16 = omega arith in
       shifted (16 * h + l) ∙ ap (λ (x : ℕ). bitXor (bitAnd x (piece 4294967295 q r / 2 ^ 4)) (piece m q r / 2 ^ 4)) here ∙ sym (shifted (16 * h))
     where
-      shifted : (x : ℕ) → bitXor (bitAnd x (piece 4294967295 q r)) (piece m q r) / 2 ^ 4 ≡ bitXor (bitAnd (x / 2 ^ 4) (piece 4294967295 q r / 2 ^ 4)) (piece m q r / 2 ^ 4)
+      shifted : (x : ℕ) → bitXor (bitAnd x (piece 4294967295 q r)) (piece m q r) / 2 ^ 4
+          ≡ bitXor (bitAnd (x / 2 ^ 4) (piece 4294967295 q r / 2 ^ 4)) (piece m q r / 2 ^ 4)
       shifted x =
           xor-shr (bitAnd x (piece 4294967295 q r)) (piece m q r) 4 ∙ ap (λ (y : ℕ). bitXor y (piece m q r / 2 ^ 4)) (and-shr x (piece 4294967295 q r) 4)
 
@@ -59,7 +61,8 @@ module _ (m q r h l : ℕ) (hh : h < 16) (hl : l < 16) where
       let here : (16 * h + l) % 16 ≡ l % 16 = omega arith in
       cut (16 * h + l) ∙ ap (λ (x : ℕ). bitXor (bitAnd x (piece 4294967295 q r % 2 ^ 4)) (piece m q r % 2 ^ 4)) here ∙ sym (cut l)
     where
-      cut : (x : ℕ) → bitXor (bitAnd x (piece 4294967295 q r)) (piece m q r) % 2 ^ 4 ≡ bitXor (bitAnd (x % 2 ^ 4) (piece 4294967295 q r % 2 ^ 4)) (piece m q r % 2 ^ 4)
+      cut : (x : ℕ) → bitXor (bitAnd x (piece 4294967295 q r)) (piece m q r) % 2 ^ 4
+          ≡ bitXor (bitAnd (x % 2 ^ 4) (piece 4294967295 q r % 2 ^ 4)) (piece m q r % 2 ^ 4)
       cut x =
           xor-mod (bitAnd x (piece 4294967295 q r)) (piece m q r) 4 ∙ ap (λ (y : ℕ). bitXor y (piece m q r % 2 ^ 4)) (and-mod x (piece 4294967295 q r) 4)
 
@@ -69,9 +72,11 @@ module _ (m q r h l : ℕ) (hh : h < 16) (hl : l < 16) where
       let d = differing m q r (16 * h) in
       let small : d / 2 ^ 4 < 2 ^ 4 = shr-lt 4 4 (differing-lt m q r (16 * h) (omega arith)) in
       let above : ones (bitAnd d 0xf0) ≡ ones (d / 2 ^ 4) =
-      ap ones (and-high d 4 4 ∙ ap (λ (n : ℕ). n * 2 ^ 4) (mod-eq-of-lt small) ∙ sym (add-zero (d / 2 ^ 4 * 2 ^ 4))) ∙ ones-cat 4 (d / 2 ^ 4) 0 (pow-pos 4) ∙ add-zero (ones (d / 2 ^ 4)) in
+      ap ones (and-high d 4 4 ∙ ap (λ (n : ℕ). n * 2 ^ 4) (mod-eq-of-lt small) ∙ sym (add-zero (d / 2 ^ 4 * 2 ^ 4))) ∙ ones-cat 4 (d / 2 ^ 4) 0 (pow-pos 4)
+      ∙ add-zero (ones (d / 2 ^ 4)) in
       ap₂ (λ (a b : ℕ). a + b) (above ∙ ap ones (sym high-same)) (ap ones (and-mask (differing m q r l) 4 ∙ sym low-same))
-      ∙ sym (ap ones (sym (div-add-mod' (differing m q r (16 * h + l)) 16)) ∙ ones-cat 4 (differing m q r (16 * h + l) / 2 ^ 4) (differing m q r (16 * h + l) % 2 ^ 4) (mod-lt (differing m q r (16 * h + l)) (pow-pos 4)))
+      ∙ sym (ap ones (sym (div-add-mod' (differing m q r (16 * h + l)) 16))
+      ∙ ones-cat 4 (differing m q r (16 * h + l) / 2 ^ 4) (differing m q r (16 * h + l) % 2 ^ 4) (mod-lt (differing m q r (16 * h + l)) (pow-pos 4)))
 
 -- the packed count
 module _ (m q x kept : ℕ) (hx : x < 256) (hk : kept < 256) where
@@ -94,7 +99,8 @@ module _ (m q x kept : ℕ) (hx : x < 256) (hk : kept < 256) where
       let each : (d : ℕ) → joined 8 (replicate 8 d) ≡ d * 0x0101010101010101 = λ d. omega arith in
       let sn = eight-lt (piece 4294967295 q) (piece-lt 4294967295 q) in
       let wn = eight-lt (piece m q) (piece-lt m q) in
-      and (xor (and (rw (each x) at (repeat {w = 8} {n = 8} {a = seen} {b = wanted} x hx)) (first sn)) (second wn)) (rw (each kept) at (repeat {w = 8} {n = 8} {a = seen} {b = wanted} kept hk))
+      and (xor (and (rw (each x) at (repeat {w = 8} {n = 8} {a = seen} {b = wanted} x hx)) (first sn)) (second wn))
+      (rw (each kept) at (repeat {w = 8} {n = 8} {a = seen} {b = wanted} kept hk))
 
   count-lt : (a : ℕ) → a < 2 ^ 8 → ipopcnt 8 a < 2 ^ 8
   count-lt a h = omega (arith, counts 8 a h, ones-le 8 a h)
@@ -104,10 +110,12 @@ module _ (m q x kept : ℕ) (hx : x < 256) (hk : kept < 256) where
   unfolding half-unary cut eight differing
   counted-is =
       mapped packed (ipopcnt 8) (λ p w hp hw. count-lt (cut p w) (small p w hp hw)) .value
-      ∙ ap (joined 8) (ap₂ (zip (λ p w. ipopcnt 8 (cut p w))) (eight-digits (piece 4294967295 q) (piece-lt 4294967295 q)) (eight-digits (piece m q) (piece-lt m q))
+      ∙ ap (joined 8) (ap₂ (zip (λ p w. ipopcnt 8 (cut p w))) (eight-digits (piece 4294967295 q) (piece-lt 4294967295 q))
+      (eight-digits (piece m q) (piece-lt m q))
       ∙ zip-row (λ p w. ipopcnt 8 (cut p w)) (piece 4294967295 q) (piece m q) 8 0)
       ∙ eight-same (λ r. ipopcnt 8 (cut (piece 4294967295 q r) (piece m q r))) (λ r. ones (bitAnd (differing m q r x) kept))
-      (λ r hr. sym (counts 8 (cut (piece 4294967295 q r) (piece m q r)) (small (piece 4294967295 q r) (piece m q r) (piece-lt 4294967295 q r) (piece-lt m q r))))
+      (λ r hr. sym (counts 8 (cut (piece 4294967295 q r) (piece m q r))
+      (small (piece 4294967295 q r) (piece m q r) (piece-lt 4294967295 q r) (piece-lt m q r))))
 
 -- an entry
 slack-le : (t q : ℕ) → slack t q ≤ 127
@@ -122,7 +130,8 @@ no-slack t (suc q) h = sym (eight-each 0)
 
 pub entry-lt : (m t q x : ℕ) → x < 256 → entry m t q x < 2 ^ 64
 unfolding entry
-entry-lt m t q x h = eight-lt (λ r. slack t q + ones (differing m q r x)) (λ r. omega (arith, slack-le t q, ones-le 8 (differing m q r x) (differing-lt m q r x h)))
+entry-lt m t q x h = eight-lt (λ r. slack t q + ones (differing m q r x))
+    (λ r. omega (arith, slack-le t q, ones-le 8 (differing m q r x) (differing-lt m q r x h)))
 
 pub entry-is : (m t q h l : ℕ) {s w a u v : ℕ} → h < 16 → l < 16 → s ≡ eight (piece 4294967295 q) → w ≡ eight (piece m q) → a ≡ eight (λ r. slack t q)
     → u ≡ half-unary 8 (ipopcnt 8) (bitAnd (bitXor (bitAnd (16 * h * 0x0101010101010101) s) w) 0xf0f0f0f0f0f0f0f0)
@@ -130,7 +139,8 @@ pub entry-is : (m t q h l : ℕ) {s w a u v : ℕ} → h < 16 → l < 16 → s �
     → a + u + v ≡ entry m t q (16 * h + l)
 unfolding entry
 entry-is m t q h l hh hl es ew ea eu ev =
-    ap₂ (λ (x y : ℕ). x + y) (ap₂ (λ (x y : ℕ). x + y) ea (eu ∙ rw (es, ew) (counted-is m q (16 * h) 0xf0 (omega arith) (lit< tt))) ∙ eight-plus (λ r. slack t q) high)
+    ap₂ (λ (x y : ℕ). x + y) (ap₂ (λ (x y : ℕ). x + y) ea (eu ∙ rw (es, ew) (counted-is m q (16 * h) 0xf0 (omega arith) (lit< tt)))
+    ∙ eight-plus (λ r. slack t q) high)
     (ev ∙ rw (es, ew) (counted-is m q l 0x0f (omega arith) (lit< tt)))
     ∙ eight-plus (λ r. slack t q + high r) (λ r. ones (bitAnd (differing m q r l) 0x0f))
     ∙ eight-same _ _ (λ r hr. add-assoc (slack t q) (high r) (ones (bitAnd (differing m q r l) 0x0f)) ∙ ap (λ (n : ℕ). slack t q + n) (nibbles m q r h l hh hl))

@@ -25,7 +25,8 @@ popcnt-split : (a b x : ℕ) → ipopcnt (a + b) x ≡ ipopcnt a x + ipopcnt b (
 popcnt-split zero b x = ap (λ (n : ℕ). ipopcnt n x) (zero-add b) ∙ sym (zero-add (ipopcnt b (x / 1)) ∙ ap (ipopcnt b) (div-one x))
 popcnt-split (suc a) b x =
     ap (λ (n : ℕ). ipopcnt n x) (suc-add a b)
-    ∙ ap (λ (k : ℕ). x % 2 + k) (popcnt-split a b (x / 2) ∙ ap (λ (q : ℕ). ipopcnt a (x / 2) + ipopcnt b q) (shr-shr x 1 a ∙ ap (λ (k : ℕ). x / 2 ^ k) (add-comm 1 a ∙ add-one a)))
+    ∙ ap (λ (k : ℕ). x % 2 + k) (popcnt-split a b (x / 2)
+    ∙ ap (λ (q : ℕ). ipopcnt a (x / 2) + ipopcnt b q) (shr-shr x 1 a ∙ ap (λ (k : ℕ). x / 2 ^ k) (add-comm 1 a ∙ add-one a)))
     ∙ sym (add-assoc (x % 2) (ipopcnt a (x / 2)) (ipopcnt b (x / 2 ^ suc a)))
 
 -- no bit above the n lowest counts
@@ -74,7 +75,8 @@ quads zero x = refl
 quads (suc n) x =
     ap₂ (λ (d : ℕ) (ds : List ℕ). d ∷ ds) (quad x)
     (quads n (x / 2 ^ 8 / 2 ^ 8 / 2 ^ 8 / 2 ^ 8)
-    ∙ ap (λ (q : ℕ). map (count 32) (digits 32 n q)) (ap (λ (q : ℕ). q / 2 ^ 8 / 2 ^ 8) (shr-shr x 8 8) ∙ ap (λ (q : ℕ). q / 2 ^ 8) (shr-shr x 16 8) ∙ shr-shr x 24 8))
+    ∙ ap (λ (q : ℕ). map (count 32) (digits 32 n q))
+    (ap (λ (q : ℕ). q / 2 ^ 8 / 2 ^ 8) (shr-shr x 8 8) ∙ ap (λ (q : ℕ). q / 2 ^ 8) (shr-shr x 16 8) ∙ shr-shr x 24 8))
 
 -- sums that do not reach the lane's end are the plain ones
 plain : (v w c : ℕ) → c + c ≤ 2 ^ w → (xs : List ℕ) → Below c xs → pairwise (iadd w) (map (extend-u v w) xs) ≡ pairwise plus xs

@@ -53,17 +53,24 @@ module _ (c0 c1 c2 c3 c4 c5 c6 c7 c8 c9 c10 c11 c12 c13 c14 c15 m0 m1 m2 m3 : �
   by-words : joined 8 held ≡ joined 32 in-words
   by-words = omega arith
 
-  module _ (h0 : Below 256 (four c0 c1 c2 c3)) (h1 : Below 256 (four c4 c5 c6 c7)) (h2 : Below 256 (four c8 c9 c10 c11)) (h3 : Below 256 (four c12 c13 c14 c15)) (hm : Below 256 (four m0 m1 m2 m3)) where
+  module _ (h0 : Below 256 (four c0 c1 c2 c3)) (h1 : Below 256 (four c4 c5 c6 c7)) (h2 : Below 256 (four c8 c9 c10 c11))
+      (h3 : Below 256 (four c12 c13 c14 c15)) (hm : Below 256 (four m0 m1 m2 m3)) where
     words-below : Below (2 ^ 32) in-words
-    words-below =
-        (joined-lt 8 (four c0 c1 c2 c3) h0, (joined-lt 8 (four c4 c5 c6 c7) h1, (joined-lt 8 (four c8 c9 c10 c11) h2, (joined-lt 8 (four c12 c13 c14 c15) h3, tt))))
+    words-below = (
+      joined-lt 8 (four c0 c1 c2 c3) h0,
+      (
+        joined-lt 8 (four c4 c5 c6 c7) h1,
+        (joined-lt 8 (four c8 c9 c10 c11) h2, (joined-lt 8 (four c12 c13 c14 c15) h3, tt)),
+      ),
+    )
 
     scalar : extract 32 (joined 8 (sought ++ replicate 12 0)) 0 ≡ joined 8 sought
     unfolding extract
     scalar = mod-eq-of-lt (joined-lt 8 sought hm)
 
     distances : left-in-register-6 (correlation held sought)
-        ≡ four (distance (bits (four c0 c1 c2 c3)) (bits sought)) (distance (bits (four c4 c5 c6 c7)) (bits sought)) (distance (bits (four c8 c9 c10 c11)) (bits sought))
+        ≡ four (distance (bits (four c0 c1 c2 c3)) (bits sought)) (distance (bits (four c4 c5 c6 c7)) (bits sought))
+        (distance (bits (four c8 c9 c10 c11)) (bits sought))
         (distance (bits (four c12 c13 c14 c15)) (bits sought))
     distances =
         ap (lanes 32) (steps-correlate ∙ ap₂ correlated by-words scalar)
@@ -86,13 +93,15 @@ module _ (buffer : List ℕ) (at m : ℕ) (fits : at + 16 ≤ length buffer) whe
   -- and leaves the distances of the windows at that byte and at the three that follow it in steps of four
   pub calculator-counts-distances : ((i : ℕ) → getD buffer i 0 < 256)
       → left-in-register-6 (correlation (take 16 (drop at buffer)) (sent m))
-      ≡ distance (window (bits buffer) (8 * at)) (mark m) ∷ distance (window (bits buffer) (8 * (at + 4))) (mark m) ∷ distance (window (bits buffer) (8 * (at + 8))) (mark m) ∷
+      ≡ distance (window (bits buffer) (8 * at)) (mark m) ∷ distance (window (bits buffer) (8 * (at + 4))) (mark m) ∷ distance
+      (window (bits buffer) (8 * (at + 8))) (mark m) ∷
       distance (window (bits buffer) (8 * (at + 12))) (mark m) ∷ []
   calculator-counts-distances h =
       ap (λ (l : List ℕ). left-in-register-6 (correlation l (sent m))) (spelt-all buffer at 16 fits)
       ∙ distances (b 0) (b 1) (b 2) (b 3) (b 4) (b 5) (b 6) (b 7) (b 8) (b 9) (b 10) (b 11) (b 12) (b 13) (b 14) (b 15) _ _ _ _
       (below 0) (below 4) (below 8) (below 12) (small (m / 2 ^ 24), (small (m / 2 ^ 16), (small (m / 2 ^ 8), (small m, tt))))
-      ∙ alike (place 0 (omega arith) ∙ ap (λ (k : ℕ). distance (window (bits buffer) (8 * k)) (mark m)) (add-zero at)) (place 4 (omega arith)) (place 8 (omega arith)) (place 12 (omega arith))
+      ∙ alike (place 0 (omega arith) ∙ ap (λ (k : ℕ). distance (window (bits buffer) (8 * k)) (mark m)) (add-zero at)) (place 4 (omega arith))
+      (place 8 (omega arith)) (place 12 (omega arith))
     where
       below : (i : ℕ) → Below 256 (spelt buffer at i 4 [])
       below i = (h _, (h _, (h _, (h _, tt))))
@@ -100,5 +109,6 @@ module _ (buffer : List ℕ) (at m : ℕ) (fits : at + 16 ≤ length buffer) whe
       small : (x : ℕ) → x % 256 < 256
       small x = mod-lt x (lit< tt)
 
-      place : (i : ℕ) → at + i + 4 ≤ length buffer → distance (bits (spelt buffer at i 4 [])) (bits (sent m)) ≡ distance (window (bits buffer) (8 * (at + i))) (mark m)
+      place : (i : ℕ) → at + i + 4 ≤ length buffer → distance (bits (spelt buffer at i 4 [])) (bits (sent m))
+          ≡ distance (window (bits buffer) (8 * (at + i))) (mark m)
       place i l = ap₂ distance (sym (window-bytes buffer at i l)) (marker-bytes m)

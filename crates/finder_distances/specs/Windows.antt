@@ -17,4 +17,5 @@ Laid bs p m away n = (length away ≡ 256) × ((i : ℕ) → i < n → getD away
 abbrev pub Spread : List ℕ → ℕ → List ℕ → List ℕ → ℕ → Type 0
 Spread bs byte heads nexts n =
     (length heads ≡ 33) × (length nexts ≡ 33)
-    × ((j : ℕ) → j < n → (binary 32 (getD heads j 0) ≡ bits (take 4 (drop (byte + j) bs))) × (getD nexts j 0 ≡ getD bs (byte + j + 4) 0) × (getD bs (byte + j + 4) 0 < 256))
+    × ((j : ℕ) → j < n → (binary 32 (getD heads j 0) ≡ bits (take 4 (drop (byte + j) bs))) × (getD nexts j 0 ≡ getD bs (byte + j + 4) 0) ×
+    (getD bs (byte + j + 4) 0 < 256))

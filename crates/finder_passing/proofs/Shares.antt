@@ -19,7 +19,8 @@ use Rattle.finder_columns.specs.Columns.{piece, differing}
 ones-low : (x : ℕ) → ones x ≡ ones (x / 2 ^ 8) + ones (x % 256)
 ones-low x = ap ones (sym (div-add-mod' x 256)) ∙ ones-cat 8 (x / 256) (x % 256) (mod-lt x (lit< tt))
 
-five-ones : (x : ℕ) → x < 2 ^ 40 → ones x ≡ ones (x / 2 ^ 32 % 256) + ones (x / 2 ^ 24 % 256) + ones (x / 2 ^ 16 % 256) + ones (x / 2 ^ 8 % 256) + ones (x / 2 ^ 0 % 256)
+five-ones : (x : ℕ) → x < 2 ^ 40 → ones x
+    ≡ ones (x / 2 ^ 32 % 256) + ones (x / 2 ^ 24 % 256) + ones (x / 2 ^ 16 % 256) + ones (x / 2 ^ 8 % 256) + ones (x / 2 ^ 0 % 256)
 five-ones x h =
     let a = ones-low x in
     let b = ones-low (x / 2 ^ 8) in
@@ -35,7 +36,8 @@ piece-is n q r k hr e =
     let place : r + 32 - 8 * q ≡ r + k = omega arith in
     let whole : 8 ≡ (8 - r) + r = omega arith in
     sym (ap (λ (i : ℕ). n * 256 / 2 ^ i % 256) place ∙ ap (λ (d : ℕ). d % 256) (sym (shr-shr (n * 256) r k)
-    ∙ ap (λ (d : ℕ). d / 2 ^ k) (ap (λ (d : ℕ). d / 2 ^ r) (ap (λ (d : ℕ). n * 2 ^ d) whole ∙ ap (λ (d : ℕ). n * d) (pow-add 2 (8 - r) r) ∙ sym (mul-assoc n (2 ^ (8 - r)) (2 ^ r)))
+    ∙ ap (λ (d : ℕ). d / 2 ^ k) (ap (λ (d : ℕ). d / 2 ^ r)
+    (ap (λ (d : ℕ). n * 2 ^ d) whole ∙ ap (λ (d : ℕ). n * d) (pow-add 2 (8 - r) r) ∙ sym (mul-assoc n (2 ^ (8 - r)) (2 ^ r)))
     ∙ shl-shr (n * 2 ^ (8 - r)) r)))
 
 module _ (a b c d e m r : ℕ) (ha : a < 256) (hb : b < 256) (hc : c < 256) (hd : d < 256) (he : e < 256) (hm : m < 2 ^ 32) (hr : r < 8) where
@@ -72,7 +74,8 @@ module _ (a b c d e m r : ℕ) (ha : a < 256) (hb : b < 256) (hc : c < 256) (hd 
   placed-is : placed ≡ bitXor seen m * 2 ^ j + 0
   unfolding placed seen
   placed-is =
-      ap₂ bitXor (ap (bitAnd number) (sym (high-ones 32 j)) ∙ and-high number 32 j ∙ sym (add-zero (number / 2 ^ j % 2 ^ 32 * 2 ^ j))) (sym (add-zero (m * 2 ^ j)))
+      ap₂ bitXor (ap (bitAnd number) (sym (high-ones 32 j)) ∙ and-high number 32 j ∙ sym (add-zero (number / 2 ^ j % 2 ^ 32 * 2 ^ j)))
+      (sym (add-zero (m * 2 ^ j)))
       ∙ xor-block j (number / 2 ^ j % 2 ^ 32) m 0 0 (pow-pos j) (pow-pos j)
 
   placed-lt : placed < 2 ^ 40
@@ -84,7 +87,8 @@ module _ (a b c d e m r : ℕ) (ha : a < 256) (hb : b < 256) (hc : c < 256) (hd 
   byte-of : (q k x : ℕ) → 8 * q + k ≡ 32 → number / 2 ^ k % 256 ≡ x → placed / 2 ^ k % 256 ≡ differing m q r x
   unfolding placed j differing
   byte-of q k x e h =
-      ap (λ (n : ℕ). n % 256) (xor-shr (bitAnd number (4294967295 * 2 ^ j)) (m * 2 ^ j) k ∙ ap (λ (n : ℕ). bitXor n (m * 2 ^ j / 2 ^ k)) (and-shr number (4294967295 * 2 ^ j) k))
+      ap (λ (n : ℕ). n % 256) (xor-shr (bitAnd number (4294967295 * 2 ^ j)) (m * 2 ^ j) k
+      ∙ ap (λ (n : ℕ). bitXor n (m * 2 ^ j / 2 ^ k)) (and-shr number (4294967295 * 2 ^ j) k))
       ∙ xor-mod (bitAnd (number / 2 ^ k) (4294967295 * 2 ^ j / 2 ^ k)) (m * 2 ^ j / 2 ^ k) 8
       ∙ ap₂ bitXor (and-mod (number / 2 ^ k) (4294967295 * 2 ^ j / 2 ^ k) 8 ∙ ap₂ bitAnd h (piece-is 4294967295 q r k hr e)) (piece-is m q r k hr e)
 
@@ -93,13 +97,22 @@ module _ (a b c d e m r : ℕ) (ha : a < 256) (hb : b < 256) (hc : c < 256) (hd 
   unfolding number ones
   five-shares =
       apart ∙ sym (add-zero (ones (bitXor seen m))) ∙ sym (ones-cat j (bitXor seen m) 0 (pow-pos j)) ∙ ap ones (sym placed-is) ∙ five-ones placed placed-lt
-      ∙ rw (byte-of 0 32 a refl (omega arith), byte-of 1 24 b refl (omega arith), byte-of 2 16 c refl (omega arith), byte-of 3 8 d refl (omega arith), byte-of 4 0 e refl (omega arith))
+      ∙ rw (
+        byte-of 0 32 a refl (omega arith),
+        byte-of 1 24 b refl (omega arith),
+        byte-of 2 16 c refl (omega arith),
+        byte-of 3 8 d refl
+            (omega arith),
+        byte-of 4 0 e refl (omega arith),
+      )
 
 -- the five bytes from a byte of a buffer on
-pub shares : (bs : List ℕ) (at r m : ℕ) → at + 5 ≤ length bs → r < 8 → m < 2 ^ 32 → getD bs (at + 0) 0 < 256 → getD bs (at + 1) 0 < 256 → getD bs (at + 2) 0 < 256
+pub shares : (bs : List ℕ) (at r m : ℕ) → at + 5 ≤ length bs → r < 8 → m < 2 ^ 32 → getD bs (at + 0) 0 < 256 → getD bs (at + 1) 0 < 256
+    → getD bs (at + 2) 0 < 256
     → getD bs (at + 3) 0 < 256 → getD bs (at + 4) 0 < 256
     → distance (window (bits bs) (8 * at + r)) (mark m)
-    ≡ ones (differing m 0 r (getD bs (at + 0) 0)) + ones (differing m 1 r (getD bs (at + 1) 0)) + ones (differing m 2 r (getD bs (at + 2) 0)) + ones (differing m 3 r (getD bs (at + 3) 0))
+    ≡ ones (differing m 0 r (getD bs (at + 0) 0)) + ones (differing m 1 r (getD bs (at + 1) 0)) + ones (differing m 2 r (getD bs (at + 2) 0)) + ones
+    (differing m 3 r (getD bs (at + 3) 0))
     + ones (differing m 4 r (getD bs (at + 4) 0))
 shares bs at r m h hr hm h0 h1 h2 h3 h4 =
     ap (λ (l : List ℕ). distance l (mark m)) (sym (window-inside bs at 5 r h (omega arith)) ∙ ap (λ (l : List ℕ). window (bits l) r) (spelt-all bs at 5 h))

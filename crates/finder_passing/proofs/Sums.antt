@@ -32,11 +32,14 @@ module _ (bs table : List ℕ) (at m t : ℕ) (fits : at + 5 ≤ length bs) (hm 
   small : (q r : ℕ) → b q < 256 → ones (differing m q r (b q)) ≤ 8
   small q r h = ones-le 8 (differing m q r (b q)) (differing-lt m q r (b q) h)
 
-  pub sum-is : b 0 < 256 → b 1 < 256 → b 2 < 256 → b 3 < 256 → b 4 < 256 → {u v w x y : ℕ} → u ≡ getD table (0 + b 0) 0 → v ≡ getD table (256 + b 1) 0 → w ≡ getD table (512 + b 2) 0
-      → x ≡ getD table (768 + b 3) 0 → y ≡ getD table (1024 + b 4) 0 → wrapped (wrapped (wrapped (wrapped u v) w) x) y ≡ eight (λ r. 127 - t + away bs m (8 * at + r))
+  pub sum-is : b 0 < 256 → b 1 < 256 → b 2 < 256 → b 3 < 256 → b 4 < 256 → {u v w x y : ℕ} → u ≡ getD table (0 + b 0) 0 → v ≡ getD table (256 + b 1) 0 → w
+      ≡ getD table (512 + b 2) 0
+      → x ≡ getD table (768 + b 3) 0 → y ≡ getD table (1024 + b 4) 0 → wrapped (wrapped (wrapped (wrapped u v) w) x) y
+      ≡ eight (λ r. 127 - t + away bs m (8 * at + r))
   unfolding slack
   sum-is h0 h1 h2 h3 h4 eu ev ew ex ey =
-      eight-wraps _ _ (eight-wraps _ _ (eight-wraps _ _ (eight-wraps _ _ (eu ∙ found 0 (omega arith) h0) (ev ∙ found 1 (omega arith) h1) (λ r. omega (arith, small 0 r h0, small 1 r h1)))
+      eight-wraps _ _ (eight-wraps _ _ (eight-wraps _ _
+      (eight-wraps _ _ (eu ∙ found 0 (omega arith) h0) (ev ∙ found 1 (omega arith) h1) (λ r. omega (arith, small 0 r h0, small 1 r h1)))
       (ew ∙ found 2 (omega arith) h2) (λ r. omega (arith, small 0 r h0, small 1 r h1, small 2 r h2)))
       (ex ∙ found 3 (omega arith) h3) (λ r. omega (arith, small 0 r h0, small 1 r h1, small 2 r h2, small 3 r h3)))
       (ey ∙ found 4 (omega arith) h4) (λ r. omega (arith, small 0 r h0, small 1 r h1, small 2 r h2, small 3 r h3, small 4 r h4))

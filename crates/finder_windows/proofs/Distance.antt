@@ -25,7 +25,8 @@ unfolding distance
 distance-append [] ys zs = sym (zero-add (distance ys zs))
 distance-append (x ∷ xs) ys [] = sym (zero-add (distance ys []) ∙ distance-nil ys)
 distance-append (x ∷ xs) ys (z ∷ zs) =
-    ap (λ (d : ℕ). cond (eqb x z) 0 1 + d) (distance-append xs ys zs) ∙ sym (add-assoc (cond (eqb x z) 0 1) (distance xs zs) (distance ys (drop (length xs) zs)))
+    ap (λ (d : ℕ). cond (eqb x z) 0 1 + d) (distance-append xs ys zs)
+    ∙ sym (add-assoc (cond (eqb x z) 0 1) (distance xs zs) (distance ys (drop (length xs) zs)))
 
 -- what stands past the other list's end does not count
 pub distance-cut : (xs ys zs : List ℕ) → length xs ≤ length ys → distance xs (ys ++ zs) ≡ distance xs ys

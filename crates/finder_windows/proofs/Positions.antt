@@ -33,7 +33,8 @@ module _ (stream m : List ℕ) (t L : ℕ) where
   parts zero n p = rw (zero-add n, add-zero p)
   parts (suc c) n p = by (stands stream m t L p) refl (parts c n (p + 1))
     where
-      by : (b : Bool) → stands stream m t L p ≡ b → first-from stream m t L (c + n) (p + 1) ≡ or-else (first-from stream m t L c (p + 1)) (first-from stream m t L n (p + 1 + c))
+      by : (b : Bool) → stands stream m t L p ≡ b → first-from stream m t L (c + n) (p + 1)
+          ≡ or-else (first-from stream m t L c (p + 1)) (first-from stream m t L n (p + 1 + c))
           → first-from stream m t L (suc c + n) p ≡ or-else (first-from stream m t L (suc c) p) (first-from stream m t L n (p + suc c))
       by true s rest = rw (suc-add c n, s)
       by false s rest =

@@ -41,7 +41,8 @@ module _ (stream m : List ℕ) (t L : ℕ) where
   reached zero p q d f e = let z : _≡_ {A = ℕ} 0 1 = cc in absurd (omega arith)
   reached (suc n) p q d f e = by (stands stream m t L p) refl (reached n (p + 1) q d f)
     where
-      by : (b : Bool) → stands stream m t L p ≡ b → (first-from stream m t L n (p + 1) ≡ found q d f → Reached stream m t L n (p + 1) q d f) → Reached stream m t L (suc n) p q d f
+      by : (b : Bool) → stands stream m t L p ≡ b → (first-from stream m t L n (p + 1) ≡ found q d f → Reached stream m t L n (p + 1) q d f)
+          → Reached stream m t L (suc n) p q d f
       by true s rest =
           let here : found p (distance (window stream p) m) (distance (window stream (p + L)) m) ≡ found q d f = rw s at e in
           let same : p ≡ q = cc in

@@ -73,6 +73,7 @@ told n h {k} e = pick (eqb n 0) refl
     pick false q =
         add-assoc _ _ _
         ∙ ap (λ (k : ℕ). (126 + k) * 8388608 % 4294967296 + rounded (moved n k)) (e ∙ ap (λ (z : ℕ). 31 - z) (sym (with-one n (some q) h)))
-        ∙ ap₂ (λ (x s : ℕ). x * 8388608 % 4294967296 + rounded (n * 2 ^ s % 4294967296)) (field (leadingZeros 32 n) (z-lt n (some q) h)) (back (leadingZeros 32 n) (z-lt n (some q) h))
+        ∙ ap₂ (λ (x s : ℕ). x * 8388608 % 4294967296 + rounded (n * 2 ^ s % 4294967296)) (field (leadingZeros 32 n) (z-lt n (some q) h))
+        (back (leadingZeros 32 n) (z-lt n (some q) h))
         ∙ ap (λ (x : ℕ). (157 - leadingZeros 32 n) * 8388608 % 4294967296 + x) (rounds (n * 2 ^ leadingZeros 32 n % 4294967296))
         ∙ narrow n (some q) h

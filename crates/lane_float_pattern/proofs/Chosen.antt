@@ -39,7 +39,8 @@ compared a b = go (compare a b) (leb→le a b) (nleb→lt a b) (eqb→eq a b) (�
 -- ---- n with an addend y, cut: the quotient q of n, or the next
 module _ (n c y : ℕ) (C : 0 < c) where
   joined : (n + y) / c ≡ n / c + (n % c + y) / c
-  joined = ap (λ (x : ℕ). (x + y) / c) (sym (div-add-mod' n c)) ∙ ap (λ (x : ℕ). x / c) (add-assoc (n / c * c) (n % c) y) ∙ mul-add-div-right C (n / c) (n % c + y)
+  joined = ap (λ (x : ℕ). (x + y) / c) (sym (div-add-mod' n c)) ∙ ap (λ (x : ℕ). x / c) (add-assoc (n / c * c) (n % c) y)
+      ∙ mul-add-div-right C (n / c) (n % c + y)
 
   pub stays : n % c + y < c → n / c ≡ (n + y) / c
   stays h = sym (joined ∙ ap (λ (x : ℕ). n / c + x) (div-eq-of-lt h) ∙ add-zero (n / c))
@@ -137,7 +138,8 @@ ceiling-same a b c d B D e =
     ceiling-is a b B
     ∙ ap (λ (q : ℕ). cond (eqb (a % b) 0) q (suc q)) (div-same a b c d B D e)
     ∙ ap (λ (t : Bool). cond t (c / d) (suc (c / d)))
-    (same-test (eqb (a % b) 0) (eqb (c % d) 0) (λ t. eq→eqb (left a b c d B D e (eqb→eq (a % b) 0 t))) (λ t. eq→eqb (left c d a b D B (sym e) (eqb→eq (c % d) 0 t))))
+    (same-test (eqb (a % b) 0) (eqb (c % d) 0) (λ t. eq→eqb (left a b c d B D e (eqb→eq (a % b) 0 t)))
+    (λ t. eq→eqb (left c d a b D B (sym e) (eqb→eq (c % d) 0 t))))
     ∙ sym (ceiling-is c d D)
 
 -- ---- each of the three sees the value alone, takes the quotient or the next, and stays at a whole number
@@ -163,7 +165,8 @@ chosen-whole false false n = div-one n
 
 -- below 1: a one exactly where twice n is above c, or where there is something to go away from zero with
 pub chosen-below : (even away : Bool) (n c : ℕ) → n < c → chosen even away n c ≡ cond (cond even (ltb c (n * 2)) (away && ltb 0 n)) 1 0
-chosen-below true away n c h = ap (λ (q : ℕ). nearest q (compare (n % c * 2) c)) (div-eq-of-lt h) ∙ ap (λ (r : ℕ). nearest 0 (compare (r * 2) c)) (mod-eq-of-lt h) ∙ go (compare (n * 2) c) (compared (n * 2) c)
+chosen-below true away n c h = ap (λ (q : ℕ). nearest q (compare (n % c * 2) c)) (div-eq-of-lt h)
+    ∙ ap (λ (r : ℕ). nearest 0 (compare (r * 2) c)) (mod-eq-of-lt h) ∙ go (compare (n * 2) c) (compared (n * 2) c)
   where
     le : n * 2 < c → n * 2 ≤ c
     le h = omega arith

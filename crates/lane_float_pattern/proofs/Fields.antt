@@ -52,7 +52,8 @@ differ a b h = go (eqb a b) (eqb→eq a b)
 
 fields-value : (f : Format) (s : Bool) (x t : ℕ) → x < ones f → HasValue (ofFields f s x t) s ((lead f x + t) * 2 ^ (x - 1)) (2 ^ low f)
 unfolding ofFields
-fields-value f s zero t h = subst (λ (q : ℕ). HasValue (odd (prec f) s t 0 (low f)) s (q * 2 ^ 0) (2 ^ low f)) (sym (zero-add t)) (odd-sign (prec f) s t 0 (low f))
+fields-value f s zero t h = subst (λ (q : ℕ). HasValue (odd (prec f) s t 0 (low f)) s (q * 2 ^ 0) (2 ^ low f)) (sym (zero-add t))
+    (odd-sign (prec f) s t 0 (low f))
 fields-value f s (suc x) t h =
     subst (λ (v : Float). HasValue v s ((hid f + t) * 2 ^ (suc x - 1)) (2 ^ low f))
     (sym (cond-no (eqb (suc x) (ones f)) (cond (eqb t 0) (inf s) nan) (odd (prec f) s (hid f + t) x (low f)) (differ (suc x) (ones f) h)))
@@ -100,7 +101,8 @@ negated f zero zero = refl
 negated f zero (suc t) = refl
 negated f (suc x) t = go (eqb (suc x) (ones f)) (eqb t 0) (hid f + t)
   where
-    go : (u v : Bool) (q : ℕ) → cond u (cond v (inf true) nan) (odd (prec f) true q x (low f)) ≡ neg (cond u (cond v (inf false) nan) (odd (prec f) false q x (low f)))
+    go : (u v : Bool) (q : ℕ) → cond u (cond v (inf true) nan) (odd (prec f) true q x (low f))
+        ≡ neg (cond u (cond v (inf false) nan) (odd (prec f) false q x (low f)))
     go true true q = refl
     go true false q = refl
     go false v zero = refl
@@ -110,7 +112,12 @@ negated f (suc x) t = go (eqb (suc x) (ones f)) (eqb t 0) (hid f + t)
 cleared : (f : Format) (b : ℕ) → ofBits f (b % top f) ≡ ofFields f false (field f b) (b % hid f)
 unfolding ofBits
 cleared f b =
-    rw (is-false (leb (top f) (b % top f)) (lt→nleb (top f) (b % top f) (mod-lt b (top-pos f))), mod-mod b (top f), mod-mod-of-dvd (hid f) b (dvd-mul-right (hid f) (suc (ones f))))
+    rw (
+      is-false (leb (top f) (b % top f)) (lt→nleb (top f) (b % top f) (mod-lt b (top-pos f))),
+      mod-mod b (top f),
+      mod-mod-of-dvd (hid f) b
+          (dvd-mul-right (hid f) (suc (ones f))),
+    )
 
 pub by-sign : (f : Format) (b : ℕ) → ofBits f b ≡ cond (leb (top f) b) (neg (ofBits f (b % top f))) (ofBits f (b % top f))
 unfolding ofBits

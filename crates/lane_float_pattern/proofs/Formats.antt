@@ -71,7 +71,8 @@ module _ (b : ℕ) where
 
       nothing : (n i : ℕ) → n * 2 < 2 ^ i → closest n (2 ^ i) ≡ 0
       nothing n i h =
-          chosen-below true false n (2 ^ i) (half n (2 ^ i) h .0) ∙ ap (λ (t : Bool). cond t 1 0) (is-false (ltb (2 ^ i) (n * 2)) (le→nltb (2 ^ i) (n * 2) (half n (2 ^ i) h .1)))
+          chosen-below true false n (2 ^ i) (half n (2 ^ i) h .0)
+          ∙ ap (λ (t : Bool). cond t 1 0) (is-false (ltb (2 ^ i) (n * 2)) (le→nltb (2 ^ i) (n * 2) (half n (2 ^ i) h .1)))
 
   pub kept-le : (i : ℕ) → 29 ≤ i → closest D (2 ^ i) ≤ 2 ^ 24
   kept-le i h = closest-le D i (2 ^ 24) (shr-lt 24 i (lt-of-lt-of-le small (pow-mono (go i h))))
@@ -83,7 +84,8 @@ module _ (b : ℕ) where
   below g h =
       sym (finite binary64 binary32 b (lt-of-lt-of-le h (lit≤ tt))
       ∙ subnormal binary32 53 (low binary64) D (x - 1) small s (under x h) (926 - x) (join x g h)
-      ∙ ap (λ (y : ℕ). cond s (2 ^ 31) 0 + y) (ap (λ (y : ℕ). min y (255 * 2 ^ 23)) (zero-add (closest D (2 ^ (926 - x)))) ∙ least (closest D (2 ^ (926 - x))) (255 * 2 ^ 23) (le-trans (kept-le (926 - x) (wide x h)) (lit≤ tt))))
+      ∙ ap (λ (y : ℕ). cond s (2 ^ 31) 0 + y) (ap (λ (y : ℕ). min y (255 * 2 ^ 23)) (zero-add (closest D (2 ^ (926 - x))))
+      ∙ least (closest D (2 ^ (926 - x))) (255 * 2 ^ 23) (le-trans (kept-le (926 - x) (wide x h)) (lit≤ tt))))
     where
       under : (x : ℕ) → x < 897 → 53 + (x - 1 + 149) ≤ 1098
       under x h = omega arith
@@ -111,7 +113,8 @@ module _ (b : ℕ) where
   pub inside : 897 ≤ x → x ≤ 1150 → cond s (2 ^ 31) 0 + ((x - 897) * 2 ^ 23 + closest D (2 ^ 29)) ≡ demote b
   inside g h =
       sym (held g (lt-of-le-of-lt h (lit< tt))
-      ∙ ap (λ (y : ℕ). cond s (2 ^ 31) 0 + y) (least ((x - 897) * 2 ^ 23 + closest D (2 ^ 29)) (255 * 2 ^ 23) (go x (closest D (2 ^ 29)) h (kept-le 29 (lit≤ tt)))))
+      ∙ ap (λ (y : ℕ). cond s (2 ^ 31) 0 + y) (least ((x - 897) * 2 ^ 23 + closest D (2 ^ 29)) (255 * 2 ^ 23)
+      (go x (closest D (2 ^ 29)) h (kept-le 29 (lit≤ tt)))))
     where
       go : (x c : ℕ) → x ≤ 1150 → c ≤ 16777216 → (x - 897) * 8388608 + c ≤ 2139095040
       go x c h k = omega arith
@@ -134,7 +137,8 @@ module _ (b : ℕ) where
 
       go : (x ≡ 2047) ⊎ (x < 2047) → cond s (2 ^ 31) 0 + 255 * 2 ^ 23 ≡ demote b
       go (inl e) = of-infinity binary64 binary32 b e n
-      go (inr l) = sym (held (some x h .1) l ∙ ap (λ (y : ℕ). cond s (2 ^ 31) 0 + y) (most ((x - 897) * 2 ^ 23 + closest D (2 ^ 29)) (255 * 2 ^ 23) (big x (closest D (2 ^ 29)) h kept-some)))
+      go (inr l) = sym (held (some x h .1) l ∙ ap (λ (y : ℕ). cond s (2 ^ 31) 0 + y)
+          (most ((x - 897) * 2 ^ 23 + closest D (2 ^ 29)) (255 * 2 ^ 23) (big x (closest D (2 ^ 29)) h kept-some)))
 
 -- ---- promote
 module _ (b : ℕ) where
@@ -163,7 +167,8 @@ module _ (b : ℕ) where
   pub some-field : 0 < y → y ≤ 254 → cond t (2 ^ 63) 0 + (b % 2 ^ 31 * 2 ^ 29 + 896 * 2 ^ 52) ≡ promote b
   some-field g h =
       sym (finite binary32 binary64 b (lt-of-le-of-lt h (lit< tt))
-      ∙ moved binary64 53 29 (digits binary32 b) (shl-lt 24 29 (digits-lt binary32 b)) (mul-le-mul-right (2 ^ 29) (led binary32 b g)) (lit≤ tt) t (y - 1) 149 (y + 895) (sum y g) (some y) (fine y h)
+      ∙ moved binary64 53 29 (digits binary32 b) (shl-lt 24 29 (digits-lt binary32 b)) (mul-le-mul-right (2 ^ 29) (led binary32 b g)) (lit≤ tt) t
+      (y - 1) 149 (y + 895) (sum y g) (some y) (fine y h)
       ∙ ap (λ (n : ℕ). cond t (2 ^ 63) 0 + ((y + 895) * 2 ^ 52 + n)) (chosen-whole true false (digits binary32 b * 2 ^ 29))
       ∙ ap (λ (n : ℕ). cond t (2 ^ 63) 0 + n) (go y (digits binary32 b) (b % 2 ^ 31) g (magnitude-is binary32 b g)))
     where

@@ -26,7 +26,8 @@ least a b h = omega arith
 -- n * 2 ^ k / 2 ^ l in the normal range: moved up by e places, n has its leading digit at the top of w
 module _ (f : Format) (w e n : ℕ) (small : n * 2 ^ e < 2 ^ w) (first : 2 ^ (w - 1) ≤ n * 2 ^ e) (enough : prec f ≤ w) where
   pub kept-le : closest (n * 2 ^ e) (2 ^ (w - prec f)) ≤ 2 * hid f
-  kept-le = le-trans (closest-le (n * 2 ^ e) (w - prec f) (2 ^ prec f) (shr-lt (prec f) (w - prec f) (subst (λ (x : ℕ). n * 2 ^ e < 2 ^ x) (go w (prec f) enough) small))) (le-of-eq (twice-hid f))
+  kept-le = le-trans (closest-le (n * 2 ^ e) (w - prec f) (2 ^ prec f)
+      (shr-lt (prec f) (w - prec f) (subst (λ (x : ℕ). n * 2 ^ e < 2 ^ x) (go w (prec f) enough) small))) (le-of-eq (twice-hid f))
     where
       go : (w p : ℕ) → p ≤ w → w ≡ p + (w - p)
       go w p h = omega arith
@@ -36,7 +37,8 @@ module _ (f : Format) (w e n : ℕ) (small : n * 2 ^ e < 2 ^ w) (first : 2 ^ (w 
   moved s k l d g some fine =
       ap (toBits f) (round-same f s (n * 2 ^ k) (2 ^ l) (n * 2 ^ e * 2 ^ k) (2 ^ (l + e)) (pow-pos l) (pow-pos (l + e)) same)
       ∙ normal f w (l + e) (n * 2 ^ e) k small s first enough (room d l e w (k + low f) (prec f) g some) d g
-      ∙ ap (λ (x : ℕ). cond s (top f) 0 + x) (least (d * hid f + closest (n * 2 ^ e) (2 ^ (w - prec f))) (ones f * hid f) (le-trans (place d (hid f) (closest (n * 2 ^ e) (2 ^ (w - prec f))) kept-le) (mul-le-mul-right (hid f) fine)))
+      ∙ ap (λ (x : ℕ). cond s (top f) 0 + x) (least (d * hid f + closest (n * 2 ^ e) (2 ^ (w - prec f))) (ones f * hid f)
+      (le-trans (place d (hid f) (closest (n * 2 ^ e) (2 ^ (w - prec f))) kept-le) (mul-le-mul-right (hid f) fine)))
     where
       place : (d h c : ℕ) → c ≤ 2 * h → d * h + c ≤ (d + 2) * h
       place d h c l = omega arith

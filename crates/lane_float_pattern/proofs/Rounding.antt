@@ -27,7 +27,8 @@ toBits-of f s (fin t m e) a h =
     ∙ ap (λ (t : Bool). cond t (top f) 0 + (size a - prec f) * hid f + a / 2 ^ (size a - prec f)) (h .0)
 
 pub size-exact : (a n : ℕ) → 2 ^ a ≤ n → n < 2 ^ suc a → size n ≡ suc a
-size-exact a n lo hi = le-antisymm (size-le n (suc a) hi) (lt-of-not-le (λ (g : size n ≤ a). lt-irrefl n (lt-of-lt-of-le (size-lt n) (le-trans (pow-mono g) lo))))
+size-exact a n lo hi = le-antisymm (size-le n (suc a) hi)
+    (lt-of-not-le (λ (g : size n ≤ a). lt-irrefl n (lt-of-lt-of-le (size-lt n) (le-trans (pow-mono g) lo))))
 
 pow-le-back : (i p : ℕ) → 2 ^ i ≤ 2 ^ p → i ≤ p
 pow-le-back i p h = go (lt-of-not-le (λ (g : suc p ≤ i). lt-irrefl (2 ^ p) (lt-of-lt-of-le (pow-lt g) h)))
@@ -52,8 +53,10 @@ module _ (f : Format) (q k : ℕ) (small : q ≤ 2 ^ prec f) (led : 0 < k → hi
   low-field h =
       let z : k ≡ 0 = none k led h in
       let y : size (q * 2 ^ k) - prec f ≡ 0 =
-      over (size (q * 2 ^ k)) (prec f) (size-le (q * 2 ^ k) (prec f - 1) (subst (λ (j : ℕ). q * 2 ^ j < hid f) (sym z) (subst (λ (x : ℕ). x < hid f) (sym (mul-one q)) h))) in
-      ap (λ (j : ℕ). j * hid f + q * 2 ^ k / 2 ^ j) y ∙ ap (λ (j : ℕ). 0 * hid f + j) (div-one (q * 2 ^ k) ∙ ap (λ (j : ℕ). q * 2 ^ j) z ∙ mul-one q) ∙ ap (λ (j : ℕ). j * hid f + q) (sym z)
+      over (size (q * 2 ^ k)) (prec f) (size-le (q * 2 ^ k) (prec f - 1)
+      (subst (λ (j : ℕ). q * 2 ^ j < hid f) (sym z) (subst (λ (x : ℕ). x < hid f) (sym (mul-one q)) h))) in
+      ap (λ (j : ℕ). j * hid f + q * 2 ^ k / 2 ^ j) y ∙ ap (λ (j : ℕ). 0 * hid f + j) (div-one (q * 2 ^ k) ∙ ap (λ (j : ℕ). q * 2 ^ j) z ∙ mul-one q)
+      ∙ ap (λ (j : ℕ). j * hid f + q) (sym z)
     where
       none : (k : ℕ) → (0 < k → hid f ≤ q) → q < hid f → k ≡ 0
       none zero l h = refl
@@ -131,12 +134,15 @@ module _ (f : Format) (q k : ℕ) (small : q ≤ 2 ^ prec f) (led : 0 < k → hi
       go : (b : Bool) → (T b → q < hid f) → (T (not b) → hid f ≤ q) → k * hid f + q ≤ ones f * hid f
       go true a b = le-trans (none k led (a tt)) (subst (λ (x : ℕ). x ≤ ones f * hid f) (one-mul (hid f)) (mul-le-mul-right (hid f) (one-le (emax f))))
       go false a b =
-          let r : 2 ^ (prec f - 1 + k) < 2 ^ (low f + suc (emax f)) = lt-of-le-of-lt (subst (λ (x : ℕ). x ≤ q * 2 ^ k) (sym (pow-add 2 (prec f - 1) k)) (mul-le-mul-right (2 ^ k) (b tt))) h in
-          le-trans (place k (hid f) q (le-trans small (le-of-eq (twice-hid f)))) (mul-le-mul-right (hid f) (exp (prec f) (emax f) (two f) (pow-lt-back (prec f - 1 + k) (low f + suc (emax f)) r)))
+          let r : 2 ^ (prec f - 1 + k) < 2 ^ (low f + suc (emax f)) = lt-of-le-of-lt
+          (subst (λ (x : ℕ). x ≤ q * 2 ^ k) (sym (pow-add 2 (prec f - 1) k)) (mul-le-mul-right (2 ^ k) (b tt))) h in
+          le-trans (place k (hid f) q (le-trans small (le-of-eq (twice-hid f))))
+          (mul-le-mul-right (hid f) (exp (prec f) (emax f) (two f) (pow-lt-back (prec f - 1 + k) (low f + suc (emax f)) r)))
 
   -- and from there on it is at least that
   over : 2 ^ (low f + suc (emax f)) ≤ q * 2 ^ k → ones f * hid f ≤ k * hid f + q
-  over h = go (eq-or-lt-of-le (exp (prec f) (emax f) (two f) (reach f) (pow-le-back (low f + suc (emax f)) (prec f + k) (le-trans h (le-trans (mul-le-mul-right (2 ^ k) small) (le-of-eq (sym (pow-add 2 (prec f) k))))))))
+  over h = go (eq-or-lt-of-le (exp (prec f) (emax f) (two f) (reach f)
+      (pow-le-back (low f + suc (emax f)) (prec f + k) (le-trans h (le-trans (mul-le-mul-right (2 ^ k) small) (le-of-eq (sym (pow-add 2 (prec f) k))))))))
     where
       exp : (p e : ℕ) → 2 ≤ p → p ≤ suc e → e + p - 2 + suc e ≤ p + k → 2 * e - 1 ≤ k
       exp p e a b c = omega arith
@@ -161,14 +167,16 @@ module _ (f : Format) (q k : ℕ) (small : q ≤ 2 ^ prec f) (led : 0 < k → hi
 
       go : (2 * emax f - 1 ≡ k) ⊎ (2 * emax f - 1 < k) → ones f * hid f ≤ k * hid f + q
       go (inl e) =
-          let g : 2 ^ prec f * 2 ^ k ≤ q * 2 ^ k = le-trans (le-of-eq (sym (ap (λ (x : ℕ). 2 ^ x) (whole (prec f) (emax f) (two f) (reach f) e) ∙ pow-add 2 (prec f) k))) h in
+          let g : 2 ^ prec f * 2 ^ k ≤ q * 2 ^ k = le-trans
+          (le-of-eq (sym (ap (λ (x : ℕ). 2 ^ x) (whole (prec f) (emax f) (two f) (reach f) e) ∙ pow-add 2 (prec f) k))) h in
           le-trans (le-of-eq (ap (λ (x : ℕ). x * hid f) (last (emax f) (prec f) (two f) (reach f) e)))
           (two-place k (hid f) q (le-trans (le-of-eq (sym (twice-hid f))) (le-of-mul-le-mul-right g (pow-pos k))))
       go (inr l) = le-trans (mul-le-mul-right (hid f) (past (emax f) (prec f) (two f) (reach f) l)) (one-place k (hid f) q (led (some (emax f) l)))
 
   pub units-bits : (s : Bool) → toBits f (units f s q k) ≡ cond s (top f) 0 + min (k * hid f + q) (ones f * hid f)
   unfolding units toBits
-  units-bits s = go (ltb (q * 2 ^ k) (2 ^ (low f + suc (emax f)))) (ltb→lt (q * 2 ^ k) (2 ^ (low f + suc (emax f)))) (nltb→le (q * 2 ^ k) (2 ^ (low f + suc (emax f))))
+  units-bits s = go (ltb (q * 2 ^ k) (2 ^ (low f + suc (emax f)))) (ltb→lt (q * 2 ^ k) (2 ^ (low f + suc (emax f))))
+      (nltb→le (q * 2 ^ k) (2 ^ (low f + suc (emax f))))
     where
       least-l : (a b : ℕ) → a ≤ b → a ≡ min a b
       least-l a b h = omega arith
@@ -198,7 +206,8 @@ kept-ge p n den P K =
     let u = den * 2 ^ k in
     let w = n / den in
     let a : 2 ^ (p - 1) * 2 ^ k ≤ w = le-trans (le-of-eq (sym (pow-add 2 (p - 1) k))) (size-reaches w (p - 1 + k) (all-in-use (size w) p P K)) in
-    le-trans (subst (λ (x : ℕ). 2 ^ (p - 1) ≤ x) (div-div-eq-div-mul n den (2 ^ k)) (le-div-iff-mul-le (pow-pos k) .1 a)) (nearest-ge (n / u) (compare (n % u * 2) u))
+    le-trans (subst (λ (x : ℕ). 2 ^ (p - 1) ≤ x) (div-div-eq-div-mul n den (2 ^ k)) (le-div-iff-mul-le (pow-pos k) .1 a))
+    (nearest-ge (n / u) (compare (n % u * 2) u))
   where
     all-in-use : (z p : ℕ) → 0 < p → 0 < z - p → p - 1 + (z - p) < z
     all-in-use z p P h = omega arith

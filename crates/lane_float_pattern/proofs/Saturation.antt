@@ -43,7 +43,8 @@ module _ (f : Format) (b : ℕ) where
   pub part-small : x < emax f → 0 ≡ part
   part-small h =
       sym (held (lt-of-lt-of-le h (least (emax f)))
-      ∙ ap (λ (q : ℕ). min q (2 ^ 32 - 1)) (div-eq-of-lt (lt-of-lt-of-le (shl-lt (prec f) (x - 1) (digits-lt f b)) (pow-mono (exp (prec f) (emax f) x (two f) (emax-some f) h)))))
+      ∙ ap (λ (q : ℕ). min q (2 ^ 32 - 1)) (div-eq-of-lt
+      (lt-of-lt-of-le (shl-lt (prec f) (x - 1) (digits-lt f b)) (pow-mono (exp (prec f) (emax f) x (two f) (emax-some f) h)))))
     where
       least : (e : ℕ) → e ≤ 2 * e + 1
       least e = omega arith
@@ -67,7 +68,9 @@ module _ (f : Format) (b : ℕ) where
       big : 2 ^ 32 ≤ D * 2 ^ (x - 1) / 2 ^ low f
       big =
           le-div-iff-mul-le (pow-pos (low f)) .1
-          (le-trans (le-of-eq (sym (pow-add 2 32 (low f)))) (le-trans (pow-mono (exp (prec f) (emax f) x (two f) h)) (le-trans (le-of-eq (pow-add 2 (prec f - 1) (x - 1))) (mul-le-mul-right (2 ^ (x - 1)) (led f b (some (emax f) x h))))))
+          (le-trans (le-of-eq (sym (pow-add 2 32 (low f))))
+          (le-trans (pow-mono (exp (prec f) (emax f) x (two f) h))
+          (le-trans (le-of-eq (pow-add 2 (prec f - 1) (x - 1))) (mul-le-mul-right (2 ^ (x - 1)) (led f b (some (emax f) x h))))))
 
       go : (x ≡ ones f) ⊎ (x < ones f) → part ≡ 2 ^ 32 - 1
       go (inl e) = ap (toUnsigned 32) (clear-infinite f b e n)
@@ -138,10 +141,12 @@ module _ (f : Format) (b : ℕ) where
       go true = sym (unsigned-set (ofBits f (b % top f)) (is-clear f b))
       go false = refl
 
-  pub signed-lane : cond (leb (top f) b) (negℤ (pos (min (trunc-sat-u f (b % top f)) (2 ^ 31)))) (pos (min (trunc-sat-u f (b % top f)) (2 ^ 31 - 1))) ≡ toSigned 31 (ofBits f b)
+  pub signed-lane : cond (leb (top f) b) (negℤ (pos (min (trunc-sat-u f (b % top f)) (2 ^ 31)))) (pos (min (trunc-sat-u f (b % top f)) (2 ^ 31 - 1)))
+      ≡ toSigned 31 (ofBits f b)
   signed-lane = rw (by-sign f b) (go (leb (top f) b))
     where
-      go : (s : Bool) → cond s (negℤ (pos (min (trunc-sat-u f (b % top f)) (2 ^ 31)))) (pos (min (trunc-sat-u f (b % top f)) (2 ^ 31 - 1))) ≡ toSigned 31 (cond s (neg (ofBits f (b % top f))) (ofBits f (b % top f)))
+      go : (s : Bool) → cond s (negℤ (pos (min (trunc-sat-u f (b % top f)) (2 ^ 31)))) (pos (min (trunc-sat-u f (b % top f)) (2 ^ 31 - 1)))
+          ≡ toSigned 31 (cond s (neg (ofBits f (b % top f))) (ofBits f (b % top f)))
       go true = sym (signed-set (ofBits f (b % top f)) (is-clear f b))
       go false = sym (signed-clear (ofBits f (b % top f)) (is-clear f b))
 

@@ -77,7 +77,8 @@ module _ (f : Format) (w l D k : ℕ) (small : D < 2 ^ w) where
       lo : 2 ^ a ≤ n / 2 ^ l
       lo =
           le-div-iff-mul-le (pow-pos l) .1
-          (le-trans (le-of-eq (sym (pow-add 2 a l) ∙ ap (λ (x : ℕ). 2 ^ x) a-is ∙ pow-add 2 (w - 1) m)) (le-trans (mul-le-mul-right (2 ^ m) lead) (le-of-eq (sym n-is))))
+          (le-trans (le-of-eq (sym (pow-add 2 a l) ∙ ap (λ (x : ℕ). 2 ^ x) a-is ∙ pow-add 2 (w - 1) m))
+          (le-trans (mul-le-mul-right (2 ^ m) lead) (le-of-eq (sym n-is))))
 
       hi : n / 2 ^ l < 2 ^ suc a
       hi = div-lt-iff-lt-mul (pow-pos l) .1 (subst (λ (x : ℕ). n < x) (ap (λ (x : ℕ). 2 ^ x) (sym (go w m l room)) ∙ pow-add 2 (suc a) l) n-lt)
@@ -100,4 +101,5 @@ module _ (f : Format) (w l D k : ℕ) (small : D < 2 ^ w) where
       over z p h = omega arith
 
       below : n / 2 ^ l < 2 ^ p
-      below = div-lt-iff-lt-mul (pow-pos l) .1 (subst (λ (x : ℕ). n < x) (pow-add 2 p l) (lt-of-lt-of-le n-lt (pow-mono (le-trans h (le-of-eq (add-comm l p))))))
+      below = div-lt-iff-lt-mul (pow-pos l) .1 (subst (λ (x : ℕ). n < x) (pow-add 2 p l)
+          (lt-of-lt-of-le n-lt (pow-mono (le-trans h (le-of-eq (add-comm l p))))))

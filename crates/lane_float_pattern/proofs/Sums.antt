@@ -36,7 +36,17 @@ round-scaled f s a c C = round-same f s (a * c) c a 1 C (zero-lt-suc 0) (mul-one
 sum-scaled : (f : Format) (s : Bool) (a : ℕ) (t : Bool) (b c : ℕ) → 0 < c → sum f s (a * c) t (b * c) c ≡ sum f s a t b 1
 unfolding sum
 sum-scaled f s a t b c C =
-    rw (ltb-scaled a b c C, ltb-scaled b a c C, sub-scaled a b c, sub-scaled b a c, ← add-mul a b c, round-scaled f s (a + b) c C, round-scaled f t (b - a) c C, round-scaled f (s && ltb b a) (a - b) c C)
+    rw (
+      ltb-scaled a b c C,
+      ltb-scaled b a c C,
+      sub-scaled a b c,
+      sub-scaled b a c,
+      ← add-mul a b c,
+      round-scaled f s (a + b) c C,
+      round-scaled f t
+          (b - a) c C,
+      round-scaled f (s && ltb b a) (a - b) c C,
+    )
 
 add-values : (f : Format) (x y : Float) (s t : Bool) (a b : ℕ) → HasValue x s a 1 → HasValue y t b 1 → add f x y ≡ sum f s a t b 1
 unfolding add
@@ -47,7 +57,8 @@ add-values f (fin u m e) (inf v) s t a b h k = absurd k
 add-values f (fin u m e) (fin v n d) s t a b h k =
     let c = down e * down d in
     let p : m * up e * down d ≡ a * c = ap (λ (z : ℕ). z * down d) (sym (mul-one (m * up e)) ∙ h .1) ∙ mul-assoc a (down e) (down d) in
-    let q : n * up d * down e ≡ b * c = ap (λ (z : ℕ). z * down e) (sym (mul-one (n * up d)) ∙ k .1) ∙ mul-right-comm b (down d) (down e) ∙ mul-assoc b (down e) (down d) in
+    let q : n * up d * down e ≡ b * c = ap (λ (z : ℕ). z * down e) (sym (mul-one (n * up d)) ∙ k .1) ∙ mul-right-comm b (down d) (down e)
+    ∙ mul-assoc b (down e) (down d) in
     rw (p, q, h .0, k .0) (sum-scaled f s a t b c (mul-pos (down-pos e) (down-pos d)))
 
 -- ---- whole numbers: their sum is rounded once, from the whole number that it is
@@ -70,7 +81,8 @@ module _ (f : Format) (n m : ℕ) where
   unfolding ofInt
   less = go (ltb n (suc m)) (ltb→lt n (suc m))
     where
-      go : (t : Bool) → (T t → n < suc m) → cond t (round f true (suc m - n) 1) (round f false (n - suc m) 1) ≡ ofInt f (cond t (negsuc (suc m - suc n)) (pos (n - suc m)))
+      go : (t : Bool) → (T t → n < suc m) → cond t (round f true (suc m - n) 1) (round f false (n - suc m) 1)
+          ≡ ofInt f (cond t (negsuc (suc m - suc n)) (pos (n - suc m)))
       go true h = rw (above (h tt))
       go false h = refl
 
@@ -104,7 +116,8 @@ sum-whole f (negsuc a) (negsuc b) = ap (λ (z : ℕ). round f true z 1) (two-mor
 pub rounded-once : (f : Format) (x y : ℤ) → natAbs x ≤ 2 ^ prec f → natAbs y ≤ 2 ^ prec f → fadd f (whole f x) (whole f y) ≡ whole f (x +ℤ y)
 rounded-once f x y h k =
     rw (ofBits-toBits f (ofInt f x) (ofInt-fits f x), ofBits-toBits f (ofInt f y) (ofInt-fits f y))
-    (ap (toBits f) (add-values f (ofInt f x) (ofInt f y) (negative x) (negative y) (natAbs x) (natAbs y) (whole-value f x h) (whole-value f y k) ∙ sum-whole f x y))
+    (ap (toBits f) (add-values f (ofInt f x) (ofInt f y) (negative x) (negative y) (natAbs x) (natAbs y) (whole-value f x h) (whole-value f y k)
+    ∙ sum-whole f x y))
 
 -- ---- up to 2 ^ prec nothing is rounded: a pattern stands for the whole number
 

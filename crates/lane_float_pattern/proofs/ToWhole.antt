@@ -21,7 +21,8 @@ use Rattle.lane_float_pattern.proofs.Fields.{field, lead, digits, magni
 use Rattle.lane_float_pattern.proofs.Chosen.{same-test, lifted, chosen-same, chosen-near, chosen-whole, chosen-below}
 
 -- ---- the pattern of a whole number n that is q * 2 ^ k units
-module _ (f : Format) (s : Bool) (n q k : ℕ) (small : q ≤ 2 ^ prec f) (first : 0 < k → hid f ≤ q) (fine : q * 2 ^ k < 2 ^ (low f + suc (emax f))) (is : n * 2 ^ low f ≡ q * 2 ^ k) where
+module _ (f : Format) (s : Bool) (n q k : ℕ) (small : q ≤ 2 ^ prec f) (first : 0 < k → hid f ≤ q) (fine : q * 2 ^ k < 2 ^ (low f + suc (emax f)))
+    (is : n * 2 ^ low f ≡ q * 2 ^ k) where
   exact : HasValue (round f s n 1) s n 1
   exact = go (eq-or-lt-of-le small)
     where
@@ -33,12 +34,17 @@ module _ (f : Format) (s : Bool) (n q k : ℕ) (small : q ≤ 2 ^ prec f) (first
       go (inl e) =
           let r : q * 2 ^ k ≡ hid f * 2 ^ suc k =
           ap (λ (x : ℕ). x * 2 ^ k) (e ∙ twice-hid f ∙ mul-comm 2 (hid f)) ∙ mul-assoc (hid f) 2 (2 ^ k) ∙ ap (λ (x : ℕ). hid f * x) (sym (pow-succ' 2 k)) in
-          round-exact f s n 1 (hid f) (suc k) (zero-lt-suc 0) (subst (λ (x : ℕ). hid f < x) (sym (twice-hid f)) (more (hid f) (pow-pos (prec f - 1)))) (subst (λ (x : ℕ). x < 2 ^ (low f + suc (emax f))) r fine) (is ∙ r ∙ sym (mul-one (hid f * 2 ^ suc k)))
+          round-exact f s n 1 (hid f) (suc k) (zero-lt-suc 0) (subst (λ (x : ℕ). hid f < x) (sym (twice-hid f)) (more (hid f) (pow-pos (prec f - 1))))
+          (subst (λ (x : ℕ). x < 2 ^ (low f + suc (emax f))) r fine) (is ∙ r ∙ sym (mul-one (hid f * 2 ^ suc k)))
 
   rescaled : (x : Float) → HasValue x s n 1 → HasValue x s (q * 2 ^ k) (2 ^ low f)
   rescaled nan v = v
   rescaled (inf t) v = v
-  rescaled (fin t m e) v = (v .0, ap (λ (x : ℕ). x * 2 ^ low f) (sym (mul-one (m * up e)) ∙ v .1) ∙ mul-right-comm n (down e) (2 ^ low f) ∙ ap (λ (x : ℕ). x * down e) is)
+  rescaled (fin t m e) v = (
+    v .0,
+    ap (λ (x : ℕ). x * 2 ^ low f) (sym (mul-one (m * up e)) ∙ v .1) ∙ mul-right-comm n (down e) (2 ^ low f)
+        ∙ ap (λ (x : ℕ). x * down e) is,
+  )
 
   whole-pattern : toBits f (round f s n 1) ≡ cond s (top f) 0 + (k * hid f + q)
   whole-pattern =
@@ -96,7 +102,8 @@ module _ (even away : Bool) (f : Format) (b : ℕ) where
           rw v (ap (toBits f) (sym v) ∙ toBits-ofBits f b B (rw v tt))
       go (inr l) =
           let n = D * 2 ^ (x - 1 - low f) in
-          let e : n * 2 ^ low f ≡ D * 2 ^ (x - 1) = mul-assoc D (2 ^ (x - 1 - low f)) (2 ^ low f) ∙ ap (λ (y : ℕ). D * y) (sym (pow-add 2 (x - 1 - low f) (low f)) ∙ ap (λ (y : ℕ). 2 ^ y) (join x (low f) h)) in
+          let e : n * 2 ^ low f ≡ D * 2 ^ (x - 1) = mul-assoc D (2 ^ (x - 1 - low f)) (2 ^ low f)
+          ∙ ap (λ (y : ℕ). D * y) (sym (pow-add 2 (x - 1 - low f) (low f)) ∙ ap (λ (y : ℕ). 2 ^ y) (join x (low f) h)) in
           finite n 1 (zero-lt-suc 0) (mul-one (D * 2 ^ (x - 1)) ∙ sym e) l
           ∙ ap (λ (y : ℕ). toBits f (round f s y 1)) (chosen-whole even away n)
           ∙ whole-pattern f s n D (x - 1) (le-of-lt (digits-lt f b)) (λ g. led f b (some x (low f) h))
@@ -142,20 +149,24 @@ module _ (even away : Bool) (f : Format) (b : ℕ) where
     least : hid f ≤ q
     least =
         subst (λ (y : ℕ). y ≤ q) hid-is
-        (mul-le-mul-right (2 ^ j) (le-trans (le-div-iff-mul-le (pow-pos j) .1 (le-trans (le-of-eq hid-is) (led f b some))) (chosen-near even away D (2 ^ j) (pow-pos j) .0)))
+        (mul-le-mul-right (2 ^ j) (le-trans (le-div-iff-mul-le (pow-pos j) .1 (le-trans (le-of-eq hid-is) (led f b some)))
+        (chosen-near even away D (2 ^ j) (pow-pos j) .0)))
 
     most : q ≤ 2 ^ prec f
     most =
         let w : 2 ^ prec f ≡ 2 * 2 ^ i * 2 ^ j = twice-hid f ∙ ap (λ (y : ℕ). 2 * y) (sym hid-is) ∙ sym (mul-assoc 2 (2 ^ i) (2 ^ j)) in
         subst (λ (y : ℕ). q ≤ y) (sym w)
-        (mul-le-mul-right (2 ^ j) (le-trans (chosen-near even away D (2 ^ j) (pow-pos j) .1) (div-lt-iff-lt-mul (pow-pos j) .1 (subst (λ (y : ℕ). D < y) w (digits-lt f b)))))
+        (mul-le-mul-right (2 ^ j) (le-trans (chosen-near even away D (2 ^ j) (pow-pos j) .1)
+        (div-lt-iff-lt-mul (pow-pos j) .1 (subst (λ (y : ℕ). D < y) w (digits-lt f b)))))
 
     stepped : result ≡ cond s (top f) 0 + ((x - 1) * hid f + q)
     stepped =
         finite D (2 ^ j) (pow-pos j) scale (lt-of-le-of-lt hi (inside (prec f) (emax f) (two f) (reach f)))
         ∙ whole-pattern f s (chosen even away D (2 ^ j)) q (x - 1) most (λ l. least)
-        (lt-of-le-of-lt (le-trans (mul-le-mul-right (2 ^ (x - 1)) most) (le-of-eq (sym (pow-add 2 (prec f) (x - 1))))) (pow-lt (exp (prec f) (emax f) x (two f) (reach f) hi)))
-        (sym (mul-assoc (chosen even away D (2 ^ j)) (2 ^ j) (2 ^ (x - 1)) ∙ ap (λ (y : ℕ). chosen even away D (2 ^ j) * y) (sym (pow-add 2 j (x - 1)) ∙ ap (λ (y : ℕ). 2 ^ y) (add-comm j (x - 1) ∙ joined))))
+        (lt-of-le-of-lt (le-trans (mul-le-mul-right (2 ^ (x - 1)) most) (le-of-eq (sym (pow-add 2 (prec f) (x - 1)))))
+        (pow-lt (exp (prec f) (emax f) x (two f) (reach f) hi)))
+        (sym (mul-assoc (chosen even away D (2 ^ j)) (2 ^ j) (2 ^ (x - 1))
+        ∙ ap (λ (y : ℕ). chosen even away D (2 ^ j) * y) (sym (pow-add 2 j (x - 1)) ∙ ap (λ (y : ℕ). 2 ^ y) (add-comm j (x - 1) ∙ joined))))
       where
         inside : (p e : ℕ) → 2 ≤ p → p ≤ suc e → e + p - 2 < 2 * e + 1
         inside p e a c = omega arith
@@ -198,7 +209,8 @@ module _ (even away : Bool) (f : Format) (b : ℕ) where
             ∙ ap (λ (y : ℕ). (cond s (suc (ones f)) 0 + (y - 1)) % 2) (at-emax (prec f) (emax f) x (two f) lo hi e)
             ∙ emax-odd f s
         go (suc k) e =
-            ap (λ (y : ℕ). y % 2) (ap (λ (y : ℕ). above * y) (pow-succ' 2 k) ∙ sym (mul-assoc above 2 (2 ^ k)) ∙ ap (λ (y : ℕ). y * 2 ^ k) (mul-comm above 2) ∙ mul-assoc 2 above (2 ^ k))
+            ap (λ (y : ℕ). y % 2) (ap (λ (y : ℕ). above * y) (pow-succ' 2 k) ∙ sym (mul-assoc above 2 (2 ^ k))
+            ∙ ap (λ (y : ℕ). y * 2 ^ k) (mul-comm above 2) ∙ mul-assoc 2 above (2 ^ k))
             ∙ mul-mod-right 2 (above * 2 ^ k)
 
     pub between : (b + lift even away (b / 2 ^ j) (2 ^ j)) / 2 ^ j * 2 ^ j ≡ result
@@ -206,7 +218,8 @@ module _ (even away : Bool) (f : Format) (b : ℕ) where
         let u = above * 2 ^ i in
         let y = lift even away (D / 2 ^ j) (2 ^ j) in
         let e : u * 2 ^ j + D ≡ b = split D ∙ pattern-is f b B some in
-        let last : b / 2 ^ j % 2 ≡ D / 2 ^ j % 2 = ap (λ (n : ℕ). n / 2 ^ j % 2) (sym e) ∙ ap (λ (n : ℕ). n % 2) (mul-add-div-right (pow-pos j) u D) ∙ skip u (D / 2 ^ j) above-even in
+        let last : b / 2 ^ j % 2 ≡ D / 2 ^ j % 2 = ap (λ (n : ℕ). n / 2 ^ j % 2) (sym e) ∙ ap (λ (n : ℕ). n % 2) (mul-add-div-right (pow-pos j) u D)
+        ∙ skip u (D / 2 ^ j) above-even in
         ap (λ (r : ℕ). (b + cond even (2 ^ j / 2 - 1 + r) (cond away (2 ^ j - 1) 0)) / 2 ^ j * 2 ^ j) last
         ∙ ap (λ (n : ℕ). (n + y) / 2 ^ j * 2 ^ j) (sym e)
         ∙ ap (λ (n : ℕ). n / 2 ^ j * 2 ^ j) (add-assoc (u * 2 ^ j) D y)
@@ -231,7 +244,8 @@ module _ (even away : Bool) (f : Format) (b : ℕ) where
 
   zero-or-one : (t : Bool) → toBits f (round f s (cond t 1 0) 1) ≡ cond s (top f) 0 + cond t (emax f * hid f) 0
   zero-or-one true =
-      whole-pattern f s 1 (hid f) (emax f - 1) (le-trans (le-of-eq (sym (one-mul (hid f)))) (le-trans (mul-le-mul-right (hid f) (le-of-lt (next 1))) (le-of-eq (sym (twice-hid f))))) (λ k. le-refl (hid f))
+      whole-pattern f s 1 (hid f) (emax f - 1) (le-trans (le-of-eq (sym (one-mul (hid f))))
+      (le-trans (mul-le-mul-right (hid f) (le-of-lt (next 1))) (le-of-eq (sym (twice-hid f))))) (λ k. le-refl (hid f))
       (subst (λ (y : ℕ). y < 2 ^ (low f + suc (emax f))) (pow-add 2 (prec f - 1) (emax f - 1)) (pow-lt (exp (prec f) (emax f) (two f) (emax-some f))))
       (one-mul (2 ^ low f) ∙ ap (λ (y : ℕ). 2 ^ y) (place (prec f) (emax f) (two f) (emax-some f)) ∙ pow-add 2 (prec f - 1) (emax f - 1))
       ∙ ap (λ (y : ℕ). cond s (top f) 0 + y) (one-is (emax f) (hid f) (emax-some f))
@@ -282,7 +296,8 @@ module _ (even away : Bool) (f : Format) (b : ℕ) where
 
       far : suc x < emax f → (magnitude f b * 2 ≤ 2 ^ low f) × (m ≤ (emax f - 1) * hid f)
       far l = (
-        le-of-lt (lt-of-lt-of-le (shl-lt (prec f + (x - 1)) 1 (shl-lt (prec f) (x - 1) (digits-lt f b))) (pow-mono (exp (prec f) (emax f) x (two f) (emax-some f) l))),
+        le-of-lt (lt-of-lt-of-le (shl-lt (prec f + (x - 1)) 1 (shl-lt (prec f) (x - 1) (digits-lt f b)))
+            (pow-mono (exp (prec f) (emax f) x (two f) (emax-some f) l))),
         le-trans (le-of-eq (sym (two-fields f b))) (le-trans (within x (hid f) t (mod-lt b (hid-pos f))) (mul-le-mul-right (hid f) (pred (emax f) x l))),
       )
 
@@ -305,23 +320,29 @@ module _ (even away : Bool) (f : Format) (b : ℕ) where
       near l =
           let k = some (emax f) x (emax-some f) l in
           let u : magnitude f b * 2 ≡ (hid f + t) * 2 ^ x =
-          mul-assoc D (2 ^ (x - 1)) 2 ∙ ap (λ (y : ℕ). D * y) (sym (pow-add 2 (x - 1) 1) ∙ ap (λ (y : ℕ). 2 ^ y) (one x (k .0))) ∙ ap (λ (y : ℕ). y * 2 ^ x) (led-digits f b x (k .0)) in
+          mul-assoc D (2 ^ (x - 1)) 2 ∙ ap (λ (y : ℕ). D * y) (sym (pow-add 2 (x - 1) 1) ∙ ap (λ (y : ℕ). 2 ^ y) (one x (k .0)))
+          ∙ ap (λ (y : ℕ). y * 2 ^ x) (led-digits f b x (k .0)) in
           let v : 2 ^ low f ≡ hid f * 2 ^ x = ap (λ (y : ℕ). 2 ^ y) (place (prec f) (emax f) x (two f) (emax-some f) l) ∙ pow-add 2 (prec f - 1) x in
           let w : m ≡ (emax f - 1) * hid f + t = sym (two-fields f b) ∙ ap (λ (y : ℕ). y * hid f + t) (sym (k .1)) in
           ap₂ ltb v u
           ∙ same-test _ _
-          (λ a. lt→ltb ((emax f - 1) * hid f) ((emax f - 1) * hid f + t) (less ((emax f - 1) * hid f) t (more (hid f) t (lt-of-mul-lt-mul-right (2 ^ x) (ltb→lt (hid f * 2 ^ x) ((hid f + t) * 2 ^ x) a)))))
-          (λ a. lt→ltb (hid f * 2 ^ x) ((hid f + t) * 2 ^ x) (mul-lt-mul-of-pos-right (less (hid f) t (more ((emax f - 1) * hid f) t (ltb→lt ((emax f - 1) * hid f) ((emax f - 1) * hid f + t) a))) (pow-pos x)))
+          (λ a. lt→ltb ((emax f - 1) * hid f) ((emax f - 1) * hid f + t)
+          (less ((emax f - 1) * hid f) t (more (hid f) t (lt-of-mul-lt-mul-right (2 ^ x) (ltb→lt (hid f * 2 ^ x) ((hid f + t) * 2 ^ x) a)))))
+          (λ a. lt→ltb (hid f * 2 ^ x) ((hid f + t) * 2 ^ x)
+          (mul-lt-mul-of-pos-right (less (hid f) t (more ((emax f - 1) * hid f) t (ltb→lt ((emax f - 1) * hid f) ((emax f - 1) * hid f + t) a)))
+          (pow-pos x)))
           ∙ ap (ltb ((emax f - 1) * hid f)) (sym w)
 
       go : (suc x ≡ emax f) ⊎ (suc x < emax f) → ltb (2 ^ low f) (magnitude f b * 2) ≡ ltb ((emax f - 1) * hid f) m
       go (inl l) = near l
       go (inr l) =
           let k = far l in
-          is-false (ltb (2 ^ low f) (magnitude f b * 2)) (le→nltb (2 ^ low f) (magnitude f b * 2) (k .0)) ∙ sym (is-false (ltb ((emax f - 1) * hid f) m) (le→nltb ((emax f - 1) * hid f) m (k .1)))
+          is-false (ltb (2 ^ low f) (magnitude f b * 2)) (le→nltb (2 ^ low f) (magnitude f b * 2) (k .0))
+          ∙ sym (is-false (ltb ((emax f - 1) * hid f) m) (le→nltb ((emax f - 1) * hid f) m (k .1)))
 
   above-zero : ltb 0 (magnitude f b) ≡ ltb 0 m
-  above-zero = same-test _ _ (λ a. lt→ltb 0 m (to (field f b) (two-fields f b) (ltb→lt 0 (magnitude f b) a))) (λ a. lt→ltb 0 (magnitude f b) (mul-pos (back (field f b) (two-fields f b) (ltb→lt 0 m a)) (pow-pos (field f b - 1))))
+  above-zero = same-test _ _ (λ a. lt→ltb 0 m (to (field f b) (two-fields f b) (ltb→lt 0 (magnitude f b) a)))
+      (λ a. lt→ltb 0 (magnitude f b) (mul-pos (back (field f b) (two-fields f b) (ltb→lt 0 m a)) (pow-pos (field f b - 1))))
     where
       t : ℕ
       t = b % hid f
@@ -360,7 +381,8 @@ module _ (even away : Bool) (f : Format) (b : ℕ) where
 
 -- ---- a direction and a sign
 
-sign-decides : (f : Format) (b : ℕ) (g h : Bool → ℕ → ℕ → Float) → ((n c : ℕ) → g (leb (top f) b) n c ≡ h (leb (top f) b) n c) → from g (ofBits f b) ≡ from h (ofBits f b)
+sign-decides : (f : Format) (b : ℕ) (g h : Bool → ℕ → ℕ → Float) → ((n c : ℕ) → g (leb (top f) b) n c ≡ h (leb (top f) b) n c) → from g (ofBits f b)
+    ≡ from h (ofBits f b)
 unfolding from ofBits ofFields odd
 sign-decides f b g h e = go (field f b) (b % hid f)
   where
@@ -369,7 +391,8 @@ sign-decides f b g h e = go (field f b) (b % hid f)
     digit d (suc q) k = e _ _
 
     pick : (u v : Bool) (d q k : ℕ)
-        → from g (cond u (cond v (inf (leb (top f) b)) nan) (odd d (leb (top f) b) q k (low f))) ≡ from h (cond u (cond v (inf (leb (top f) b)) nan) (odd d (leb (top f) b) q k (low f)))
+        → from g (cond u (cond v (inf (leb (top f) b)) nan) (odd d (leb (top f) b) q k (low f)))
+        ≡ from h (cond u (cond v (inf (leb (top f) b)) nan) (odd d (leb (top f) b) q k (low f)))
     pick true true d q k = refl
     pick true false d q k = refl
     pick false v d q k = digit d q k
@@ -384,12 +407,15 @@ module _ (f : Format) (b : ℕ) where
 
   pub upward-is : toBits f (rounded false (ltb b (top f)) f (ofBits f b)) ≡ fceil f b
   upward-is =
-      ap (toBits f) (sign-decides f b _ (λ s n c. round f s (integer upward s n c) 1) (λ n c. ap (λ (k : ℕ). round f (leb (top f) b) k 1) (go (ltb b (top f)) (leb (top f) b) (ltb→lt b (top f)) (nltb→le b (top f)) (leb→le (top f) b) (nleb→lt (top f) b) n c)))
+      ap (toBits f) (sign-decides f b _ (λ s n c. round f s (integer upward s n c) 1)
+      (λ n c. ap (λ (k : ℕ). round f (leb (top f) b) k 1)
+      (go (ltb b (top f)) (leb (top f) b) (ltb→lt b (top f)) (nltb→le b (top f)) (leb→le (top f) b) (nleb→lt (top f) b) n c)))
     where
       both : (c : ℕ) → b < c → c ≤ b → ⊥
       both c h k = omega arith
 
-      go : (t s : Bool) → (T t → b < top f) → (T (not t) → top f ≤ b) → (T s → top f ≤ b) → (T (not s) → b < top f) → (n c : ℕ) → chosen false t n c ≡ integer upward s n c
+      go : (t s : Bool) → (T t → b < top f) → (T (not t) → top f ≤ b) → (T s → top f ≤ b) → (T (not s) → b < top f) → (n c : ℕ) → chosen false t n c
+          ≡ integer upward s n c
       go true true p q r l n c = absurd (both (top f) (p tt) (r tt))
       go true false p q r l n c = refl
       go false true p q r l n c = refl

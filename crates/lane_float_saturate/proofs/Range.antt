@@ -37,7 +37,8 @@ module _ (f : Format) (b : ℕ) where
   beyond h = lane (pick (leb (top f) b))
     where
       pick : (s : Bool) → cond s 2147483648 2147483647 ≡ modulo 32 (cond s (negℤ (pos (min part (2 ^ 31)))) (pos (min part (2 ^ 31 - 1))))
-      pick true = negated-lane 2147483648 (lit≤ tt) (lit≤ tt) ∙ ap (λ (p : ℕ). modulo 32 (negℤ (pos p))) (ap (λ (t : Bool). cond t part 2147483648) (sym (le-ltb part 2147483648 h)) ∙ held-low part)
+      pick true = negated-lane 2147483648 (lit≤ tt) (lit≤ tt)
+          ∙ ap (λ (p : ℕ). modulo 32 (negℤ (pos p))) (ap (λ (t : Bool). cond t part 2147483648) (sym (le-ltb part 2147483648 h)) ∙ held-low part)
       pick false = ap (λ (t : Bool). cond t part 2147483647) (sym (le-ltb part 2147483648 h)) ∙ held-high part
 
   pub inside : 0 < part → part < 2 ^ 31 → cond (leb (top f) b) (4294967295 - part + 1) part ≡ trunc-sat-s f b
@@ -98,7 +99,8 @@ within binary32 b g h =
     let d = digits-lt binary32 b in
     let l = led binary32 b (le-trans (lit≤ tt) g) in
     let e = middle32 b g (few (field binary32 b) h) in (
-      le-trans (some-left (digits binary32 b * 256) (158 - field binary32 b) (le-trans (pow-mono (count (field binary32 b) g)) (omega (arith, l)))) (le-of-eq e),
+      le-trans (some-left (digits binary32 b * 256) (158 - field binary32 b) (le-trans (pow-mono (count (field binary32 b) g)) (omega (arith, l))))
+          (le-of-eq e),
       lt-of-le-of-lt (le-of-eq (sym e ∙ ap (λ (k : ℕ). digits binary32 b * 256 / 2 ^ k) (more (field binary32 b) h)))
           (lt-of-le-of-lt (less-left (digits binary32 b * 256) 1 (157 - field binary32 b)) (omega (arith, d))),
     )
@@ -131,7 +133,8 @@ within binary64 b g h =
 
 -- ---- what the code of 64 bits chooses, by the upper half
 module _ (b : ℕ) where
-  pub at-end : {e : ℕ} → e ≡ cond (leb 2147483648 (b / 4294967296)) 2147483648 2147483647 → b % 9223372036854775808 ≤ 9218868437227405312 → 1054 ≤ field binary64 b → e ≡ trunc-sat-s binary64 b
+  pub at-end : {e : ℕ} → e ≡ cond (leb 2147483648 (b / 4294967296)) 2147483648 2147483647 → b % 9223372036854775808 ≤ 9218868437227405312
+      → 1054 ≤ field binary64 b → e ≡ trunc-sat-s binary64 b
   at-end ee n h = ee ∙ ap (λ (t : Bool). cond t 2147483648 2147483647) (sign-test b) ∙ beyond binary64 b (reached binary64 b n h)
 
   pub ones-field : {e : ℕ} → e ≡ cond (leb 2147483648 (b / 4294967296)) 2147483648 2147483647 → 2146435072 ≤ upper b
@@ -144,9 +147,11 @@ module _ (b : ℕ) where
 
   pub part-is : 1023 ≤ field binary64 b → field binary64 b < 1054 → (b % 4503599627370496 + 4503599627370496) / 2 ^ (1075 - upper b / 1048576) ≡ part binary64 b
   part-is g h =
-      ap₂ (λ (n x : ℕ). n / 2 ^ (1075 - x)) (digits-are binary64 b (le-trans (lit≤ tt) g) ∙ sym (mul-one (digits binary64 b))) (field-is b) ∙ middle64 b g (le-of-lt h)
+      ap₂ (λ (n x : ℕ). n / 2 ^ (1075 - x)) (digits-are binary64 b (le-trans (lit≤ tt) g) ∙ sym (mul-one (digits binary64 b))) (field-is b)
+      ∙ middle64 b g (le-of-lt h)
 
-  pub with-sign : 1023 ≤ field binary64 b → field binary64 b < 1054 → {p : ℕ} → p ≡ part binary64 b → cond (leb 2147483648 (b / 4294967296)) (4294967295 - p + 1) p ≡ trunc-sat-s binary64 b
+  pub with-sign : 1023 ≤ field binary64 b → field binary64 b < 1054 → {p : ℕ} → p ≡ part binary64 b
+      → cond (leb 2147483648 (b / 4294967296)) (4294967295 - p + 1) p ≡ trunc-sat-s binary64 b
   with-sign g h e =
       let w = within binary64 b g h in
       ap₂ (λ (t : Bool) (p : ℕ). cond t (4294967295 - p + 1) p) (sign-test b) e ∙ inside binary64 b (w .0) (w .1)
@@ -166,12 +171,14 @@ module _ (b : ℕ) (F : b < 4294967296) where
   from x h = omega arith
 
   moved-is : 127 ≤ field binary32 b → field binary32 b ≤ 158 → moved ≡ part binary32 b
-  moved-is g h = ap₂ (λ (n k : ℕ). n / 2 ^ k) (shifted b ∙ ap (λ (d : ℕ). d * 256) (digits-are binary32 b (le-trans (lit≤ tt) g))) (count b F g h) ∙ middle32 b g h
+  moved-is g h = ap₂ (λ (n k : ℕ). n / 2 ^ k) (shifted b ∙ ap (λ (d : ℕ). d * 256) (digits-are binary32 b (le-trans (lit≤ tt) g))) (count b F g h)
+      ∙ middle32 b g h
     where
       shifted : (b : ℕ) → b % 8388608 * 256 + 2147483648 ≡ (b % 8388608 + 8388608) * 256
       shifted b = omega arith
 
-      count : (b : ℕ) → b < 4294967296 → 127 ≤ b % 2147483648 / 8388608 → b % 2147483648 / 8388608 ≤ 158 → (542 - b / 8388608) % 32 ≡ 158 - b % 2147483648 / 8388608
+      count : (b : ℕ) → b < 4294967296 → 127 ≤ b % 2147483648 / 8388608 → b % 2147483648 / 8388608 ≤ 158 → (542 - b / 8388608) % 32
+          ≡ 158 - b % 2147483648 / 8388608
       count b F g h = omega arith
 
   pub unsigned : cond (ltb b 1065353216 || ltb 2139095040 b) 0 (cond (leb 1333788672 b) 4294967295 moved) ≡ trunc-sat-u binary32 b
@@ -191,9 +198,11 @@ module _ (b : ℕ) (F : b < 4294967296) where
       pick true q r false k l m n = part-small binary32 b (under 127 (le-trans (le-of-eq (ap suc (clear n))) (ltb-true _ _ k))) ∙ plain (leb-false _ _ n)
       pick false true r false k l m n = part-of-nan binary32 b (le-trans (ltb-true _ _ l) (le-of-eq (sym (clear n)))) ∙ plain (leb-false _ _ n)
       pick false false true false k l m n =
-          part-large binary32 b (le-trans (le-of-eq (clear n)) (ltb-false _ _ l)) (from 159 (le-trans (leb-true _ _ m) (le-of-eq (sym (clear n))))) ∙ plain (leb-false _ _ n)
+          part-large binary32 b (le-trans (le-of-eq (clear n)) (ltb-false _ _ l)) (from 159 (le-trans (leb-true _ _ m) (le-of-eq (sym (clear n)))))
+          ∙ plain (leb-false _ _ n)
       pick false false false false k l m n =
-          moved-is (from 127 (le-trans (ltb-false _ _ k) (le-of-eq (sym (clear n))))) (le-of-suc-le-suc (under 159 (le-trans (le-of-eq (ap suc (clear n))) (leb-false _ _ m))))
+          moved-is (from 127 (le-trans (ltb-false _ _ k) (le-of-eq (sym (clear n)))))
+          (le-of-suc-le-suc (under 159 (le-trans (le-of-eq (ap suc (clear n))) (leb-false _ _ m))))
           ∙ plain (leb-false _ _ n)
 
   pub signed : {o r : ℕ} → o ≡ cond (leb 2147483648 b) 4294967295 0 → r < 4294967296 → (r + o) % 4294967296 ≡ bitXor moved o
@@ -210,7 +219,8 @@ module _ (b : ℕ) (F : b < 4294967296) where
       same : (p r : ℕ) → r < 4294967296 → (r + 0) % 4294967296 ≡ bitXor p 0 → r ≡ p
       same p r k e = omega (arith, xor-zero-r p)
 
-      turned : (s : Bool) (p : ℕ) → 0 < p → p < 2147483648 → (r + cond s 4294967295 0) % 4294967296 ≡ bitXor p (cond s 4294967295 0) → r ≡ cond s (4294967295 - p + 1) p
+      turned : (s : Bool) (p : ℕ) → 0 < p → p < 2147483648 → (r + cond s 4294967295 0) % 4294967296 ≡ bitXor p (cond s 4294967295 0) → r
+          ≡ cond s (4294967295 - p + 1) p
       turned true p g h e = opposite p r g h hr e
       turned false p g h e = same p r hr e
 
@@ -224,4 +234,5 @@ module _ (b : ℕ) (F : b < 4294967296) where
           let g = from 127 (ltb-false _ _ k) in
           let h = under 158 (leb-false _ _ m) in
           let w = within binary32 b g h in
-          turned (leb 2147483648 b) (part binary32 b) (w .0) (w .1) (ap (λ (x : ℕ). (r + x) % 4294967296) (sym eo) ∙ er ∙ ap₂ bitXor (moved-is g (le-of-lt h)) eo) ∙ inside binary32 b (w .0) (w .1)
+          turned (leb 2147483648 b) (part binary32 b) (w .0) (w .1)
+          (ap (λ (x : ℕ). (r + x) % 4294967296) (sym eo) ∙ er ∙ ap₂ bitXor (moved-is g (le-of-lt h)) eo) ∙ inside binary32 b (w .0) (w .1)

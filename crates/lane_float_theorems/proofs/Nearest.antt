@@ -68,7 +68,8 @@ in-units : (l m : ℕ) (e : ℤ) (w : ℕ) → down e ≤ 2 ^ l → m * up e * 2
 in-units l m (pos k) w h g = (k + l, sym (mul-one w) ∙ sym g ∙ mul-assoc m (2 ^ k) (2 ^ l) ∙ ap (λ (x : ℕ). m * x) (sym (pow-add 2 k l)))
 in-units l m (negsuc k) w h g =
     let reaches : suc k ≤ l = by (leb (suc k) l) refl in
-    let power : 2 ^ l ≡ 2 ^ (l - suc k) * 2 ^ suc k = ap (λ (x : ℕ). 2 ^ x) (let z : l ≡ l - suc k + suc k = omega arith in z) ∙ pow-add 2 (l - suc k) (suc k) in (
+    let power : 2 ^ l ≡ 2 ^ (l - suc k) * 2 ^ suc k = ap (λ (x : ℕ). 2 ^ x) (let z : l ≡ l - suc k + suc k = omega arith in z)
+    ∙ pow-add 2 (l - suc k) (suc k) in (
       l - suc k,
       eq-of-mul-eq-mul-right (2 ^ suc k) (pow-pos (suc k)) w (m * 2 ^ (l - suc k))
           (sym g ∙ ap (λ (x : ℕ). x * 2 ^ l) (mul-one m) ∙ ap (λ (x : ℕ). m * x) power ∙ sym (mul-assoc m (2 ^ (l - suc k)) (2 ^ suc k))),
@@ -83,7 +84,8 @@ in-units l m (negsuc k) w h g =
 
 zero-value : (f : Format) (e : ℤ) (w : ℕ) → 0 * up e * 2 ^ low f ≡ w * down e → w ≡ 0
 zero-value f e zero h = refl
-zero-value f e (suc w) h = absurd (let p = mul-pos (zero-lt-suc w) (down-pos e) in omega (arith, h, zero-mul (up e), zero-mul (2 ^ low f), ap (λ (x : ℕ). x * 2 ^ low f) (zero-mul (up e))))
+zero-value f e (suc w) h = absurd (let p = mul-pos (zero-lt-suc w) (down-pos e) in omega
+    (arith, h, zero-mul (up e), zero-mul (2 ^ low f), ap (λ (x : ℕ). x * 2 ^ low f) (zero-mul (up e))))
 
 record Bounded (f : Format) (w : ℕ) : Type 0 where
   digits : Digits (prec f) w
@@ -110,7 +112,8 @@ of-float f (fin s (suc m) e) q t w h =
     below =
         subst (λ (x : ℕ). x < overflow f * down e) (h .1)
         (subst (λ (x : ℕ). suc m * up e * 2 ^ low f < x)
-        (mul-right-comm (2 ^ suc (emax f)) (down e) (2 ^ low f) ∙ ap (λ (x : ℕ). x * down e) (mul-comm (2 ^ suc (emax f)) (2 ^ low f) ∙ sym (pow-add 2 (low f) (suc (emax f)))))
+        (mul-right-comm (2 ^ suc (emax f)) (down e) (2 ^ low f)
+        ∙ ap (λ (x : ℕ). x * down e) (mul-comm (2 ^ suc (emax f)) (2 ^ low f) ∙ sym (pow-add 2 (low f) (suc (emax f)))))
         (mul-lt-mul-of-pos-right (short f s m e q) (pow-pos (low f))))
 
 bounded : (f : Format) {w : ℕ} → Candidate f w → Bounded f w
@@ -140,7 +143,8 @@ module _ (p q k : ℕ) (P : 2 ≤ p) (most : q ≤ 2 ^ p) (h : q % 2 ≡ 0) wher
   within l =
       let z = size (q * 2 ^ k) - p in
       let split : q * 2 ^ k ≡ q * 2 ^ (k - z) * 2 ^ z =
-      ap (λ (x : ℕ). q * x) (ap (λ (x : ℕ). 2 ^ x) (let g : k ≡ k - z + z = omega arith in g) ∙ pow-add 2 (k - z) z) ∙ sym (mul-assoc q (2 ^ (k - z)) (2 ^ z)) in
+      ap (λ (x : ℕ). q * x) (ap (λ (x : ℕ). 2 ^ x) (let g : k ≡ k - z + z = omega arith in g) ∙ pow-add 2 (k - z) z)
+      ∙ sym (mul-assoc q (2 ^ (k - z)) (2 ^ z)) in
       ap (λ (x : ℕ). x % 2) (ap (λ (x : ℕ). x / 2 ^ z) split ∙ mul-div-cancel (q * 2 ^ (k - z)) (pow-pos z)) ∙ even-product q (2 ^ (k - z)) h
 
   -- one digit more than p: the next power of two
@@ -152,7 +156,8 @@ module _ (p q k : ℕ) (P : 2 ≤ p) (most : q ≤ 2 ^ p) (h : q % 2 ≡ 0) wher
       let few : size v ≤ suc (p + k) = size-le v (suc (p + k)) (lt-of-le-of-lt up-to (pow-lt (let g : p + k < suc (p + k) = omega arith in g))) in
       let places : size v - p ≡ suc k = omega arith in
       let power : v ≡ 2 ^ (1 + (p - 2)) * 2 ^ suc k =
-      (let g : v ≡ 2 ^ (p + k) = omega arith in g) ∙ ap (λ (x : ℕ). 2 ^ x) (let g : p + k ≡ 1 + (p - 2) + suc k = omega arith in g) ∙ pow-add 2 (1 + (p - 2)) (suc k) in
+      (let g : v ≡ 2 ^ (p + k) = omega arith in g) ∙ ap (λ (x : ℕ). 2 ^ x) (let g : p + k ≡ 1 + (p - 2) + suc k = omega arith in g)
+      ∙ pow-add 2 (1 + (p - 2)) (suc k) in
       ap (λ (x : ℕ). v / 2 ^ x % 2) places
       ∙ ap (λ (x : ℕ). x % 2) (ap (λ (x : ℕ). x / 2 ^ suc k) power ∙ mul-div-cancel (2 ^ (1 + (p - 2))) (pow-pos (suc k)))
       ∙ ap (λ (x : ℕ). x % 2) (pow-add 2 1 (p - 2)) ∙ even-product 2 (2 ^ (p - 2)) refl
@@ -188,7 +193,8 @@ module _ (f : Format) (s : Bool) (num den : ℕ) (D : 0 < den) where
   finite h =
       let q = kept (prec f) (num * 2 ^ low f) den in
       let k = drop (prec f) (num * 2 ^ low f) den in
-      let is : HasValue (round f s num den) s (q * 2 ^ k) (2 ^ low f) = subst (λ (x : Float). HasValue x s (q * 2 ^ k) (2 ^ low f)) (sym (round-is f s num den)) (units-val f s q k h) in
+      let is : HasValue (round f s num den) s (q * 2 ^ k) (2 ^ low f) = subst (λ (x : Float). HasValue x s (q * 2 ^ k) (2 ^ low f))
+      (sym (round-is f s num den)) (units-val f s q k h) in
       record {
         v = q * 2 ^ k;
         is = is;
@@ -203,7 +209,8 @@ module _ (f : Format) (s : Bool) (num den : ℕ) (D : 0 < den) where
   infinite h e =
       record {
         is = e;
-        near = λ w c. past (grid f num den * den) (overflow f * den) (w * den) (num * 2 ^ low f) (mul-le-mul-right den h) (mul-le-mul-right den (bounded f c .most)) (candidate w c .near);
+        near = λ w c. past (grid f num den * den) (overflow f * den) (w * den) (num * 2 ^ low f) (mul-le-mul-right den h)
+            (mul-le-mul-right den (bounded f c .most)) (candidate w c .near);
       }
 
   pub nearest : Finite f s num den (round f s num den) ⊎ Infinite f s num den (round f s num den)

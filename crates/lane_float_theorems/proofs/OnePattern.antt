@@ -59,7 +59,8 @@ module _ (f : Format) where
       let u = units-of f s n d h in
       let here : m * up e * l ≡ u .0 * down e =
       eq-of-mul-eq-mul-right (down d) (down-pos d) (m * up e * l) (u .0 * down e)
-      (mul-right-comm (m * up e) l (down d) ∙ ap (λ (x : ℕ). x * l) g ∙ mul-right-comm (n * up d) (down e) l ∙ ap (λ (x : ℕ). x * down e) (u .1) ∙ mul-right-comm (u .0) (down d) (down e)) in
+      (mul-right-comm (m * up e) l (down d) ∙ ap (λ (x : ℕ). x * l) g ∙ mul-right-comm (n * up d) (down e) l ∙ ap (λ (x : ℕ). x * down e) (u .1)
+      ∙ mul-right-comm (u .0) (down d) (down e)) in
       pattern-of f s (u .0) (fin s m e) (refl, here) ∙ sym (pattern-of f s (u .0) (fin s n d) (refl, u .1))
 
   zero-pattern : (s : Bool) (e : ℤ) → toBits f (fin s 0 e) % top f ≡ 0
@@ -93,21 +94,27 @@ module _ (f : Format) (a b : ℕ) (ha : a < 2 * top f) (hb : b < 2 * top f) wher
   by (inf true) (inf false) p q e = absurd (true≢false (sym e))
   by (inf false) (inf true) p q e = absurd (true≢false (sym e))
   by (fin s zero e') (fin t zero d) p q e =
-      inr
-      (ap (λ (x : ℕ). x % top f) (its-own a ha (fin s zero e') p tt) ∙ zero-pattern f s e', ap (λ (x : ℕ). x % top f) (its-own b hb (fin t zero d) q tt) ∙ zero-pattern f t d)
+      inr (
+        ap (λ (x : ℕ). x % top f) (its-own a ha (fin s zero e') p tt) ∙ zero-pattern f s e',
+        ap (λ (x : ℕ). x % top f) (its-own b hb (fin t zero d) q tt)
+            ∙ zero-pattern f t d,
+      )
   by (fin s zero e') (fin t (suc n) d) p q e =
       let g = eqb-true (zero * up e' * down d) (suc n * up d * down e') (both _ _ e .0) in
-      absurd (let h = mul-pos (mul-pos (zero-lt-suc n) (up-pos d)) (down-pos e') in omega (arith, g, zero-mul (up e'), zero-mul (down d), ap (λ (x : ℕ). x * down d) (zero-mul (up e'))))
+      absurd (let h = mul-pos (mul-pos (zero-lt-suc n) (up-pos d)) (down-pos e') in omega
+      (arith, g, zero-mul (up e'), zero-mul (down d), ap (λ (x : ℕ). x * down d) (zero-mul (up e'))))
   by (fin s (suc m) e') (fin t zero d) p q e =
       let g = eqb-true (suc m * up e' * down d) (zero * up d * down e') (both _ _ e .0) in
-      absurd (let h = mul-pos (mul-pos (zero-lt-suc m) (up-pos e')) (down-pos d) in omega (arith, g, zero-mul (up d), zero-mul (down e'), ap (λ (x : ℕ). x * down e') (zero-mul (up d))))
+      absurd (let h = mul-pos (mul-pos (zero-lt-suc m) (up-pos e')) (down-pos d) in omega
+      (arith, g, zero-mul (up d), zero-mul (down e'), ap (λ (x : ℕ). x * down e') (zero-mul (up d))))
   by (fin s (suc m) e') (fin t (suc n) d) p q e =
       let g = both _ _ e in
       let some = mul-pos (mul-pos (zero-lt-suc m) (up-pos e')) (down-pos d) in
       let signs : s ≡ t = same-sign s t (eqb (suc m * up e' * down d) 0) (g .1) (ne-eqb (suc m * up e' * down d) 0 (λ z. omega (arith, z))) in
       inl
       (its-own a ha (fin s (suc m) e') p tt
-      ∙ equal-patterns f s (suc m) e' (suc n) d (fine f t n d (fits-of b (fin t (suc n) d) q)) (eqb-true (suc m * up e' * down d) (suc n * up d * down e') (g .0))
+      ∙ equal-patterns f s (suc m) e' (suc n) d (fine f t n d (fits-of b (fin t (suc n) d) q))
+      (eqb-true (suc m * up e' * down d) (suc n * up d * down e') (g .0))
       ∙ ap (λ (r : Bool). toBits f (fin r (suc n) d)) signs ∙ sym (its-own b hb (fin t (suc n) d) q tt))
 
   pub one-pattern : eq (ofBits f a) (ofBits f b) ≡ true → (a ≡ b) ⊎ Zeros f a b

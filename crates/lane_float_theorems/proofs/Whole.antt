@@ -84,12 +84,20 @@ module _ (n u q r t : ℕ) (whole : q * u + r ≡ n) (rest : r < u) where
           record { near = omega (arith, s); tie = λ ne same. absurd (let f = far-above (lt-of-le-ne g (λ z. ne (sym z))) in omega (arith, s)) }
 
   half : r * 2 ≡ u → (c : ℕ) → c < 2 → (q + c) % 2 ≡ 0 → Nearer n u (q + c) t
-  half h zero l even = record { near = subst (λ (x : ℕ). apart (x * u) n ≤ apart (t * u) n) (let z : q ≡ q + 0 = omega arith in z) (by (leb t q) refl); tie = λ ne same. even }
+  half h zero l even = record {
+    near = subst (λ (x : ℕ). apart (x * u) n ≤ apart (t * u) n) (let z : q ≡ q + 0 = omega arith in z)
+        (by (leb t q) refl);
+    tie = λ ne same. even;
+  }
     where
       by : (b : Bool) → leb t q ≡ b → apart (q * u) n ≤ apart (t * u) n
       by true e = let l = below (leb-true t q e) in omega arith
       by false e = let l = above (leb-false t q e) in omega arith
-  half h (suc zero) l even = record { near = subst (λ (x : ℕ). apart (x * u) n ≤ apart (t * u) n) (let z : suc q ≡ q + 1 = omega arith in z) (by (leb t q) refl); tie = λ ne same. even }
+  half h (suc zero) l even = record {
+    near = subst (λ (x : ℕ). apart (x * u) n ≤ apart (t * u) n) (let z : suc q ≡ q + 1 = omega arith in z)
+        (by (leb t q) refl);
+    tie = λ ne same. even;
+  }
     where
       by : (b : Bool) → leb t q ≡ b → apart (suc q * u) n ≤ apart (t * u) n
       by true e = let l = below (leb-true t q e) in omega (arith, one-more q u)
@@ -140,7 +148,8 @@ module _ (p n den : ℕ) (P : 0 < p) (D : 0 < den) where
       let c = closest-near n u t (mul-pos D (pow-pos k)) in
       record {
         near = rw (here, ← regroup (kept p n den)) (c .near);
-        tie = λ ne same. c .tie (λ z. ne (e ∙ ap (λ (x : ℕ). x * 2 ^ k) z)) (ap (λ (x : ℕ). apart x n) (regroup (kept p n den)) ∙ same ∙ ap (λ (x : ℕ). apart x n) here);
+        tie = λ ne same. c .tie (λ z. ne (e ∙ ap (λ (x : ℕ). x * 2 ^ k) z))
+            (ap (λ (x : ℕ). apart x n) (regroup (kept p n den)) ∙ same ∙ ap (λ (x : ℕ). apart x n) here);
       }
 
   -- a number with a smaller last digit is below the least that keeps all of its digits, which is a multiple
@@ -167,4 +176,5 @@ module _ (p n den : ℕ) (P : 0 < p) (D : 0 < den) where
           let k = drop p n den in
           let l = leb-true k (d .j) e in
           multiple (d .q * 2 ^ (d .j - k)) v
-          (d .is ∙ ap (λ (x : ℕ). d .q * x) (ap (λ (x : ℕ). 2 ^ x) (let z : d .j ≡ d .j - k + k = omega arith in z) ∙ pow-add 2 (d .j - k) k) ∙ sym (mul-assoc (d .q) (2 ^ (d .j - k)) (2 ^ k)))
+          (d .is ∙ ap (λ (x : ℕ). d .q * x) (ap (λ (x : ℕ). 2 ^ x) (let z : d .j ≡ d .j - k + k = omega arith in z) ∙ pow-add 2 (d .j - k) k)
+          ∙ sym (mul-assoc (d .q) (2 ^ (d .j - k)) (2 ^ k)))

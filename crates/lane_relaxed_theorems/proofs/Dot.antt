@@ -52,14 +52,16 @@ module _ (a b : ℕ) (ha : a < 2 ^ 16) (hb : b < 2 ^ 16) where
   dotted-held : dotted extend-s a b ≡ sat-s 16 (exact a b)
   dotted-held =
       ap₂ (iadd-sat-s 16) low-product high-product
-      ∙ ap (sat-s 16) (ap₂ _+ℤ_ (read (signed 8 (a % 2 ^ 8)) (signed 8 (b % 2 ^ 8)) a-low b-low) (read (signed 8 (a / 2 ^ 8)) (signed 8 (b / 2 ^ 8)) a-high b-high))
+      ∙ ap (sat-s 16) (ap₂ _+ℤ_ (read (signed 8 (a % 2 ^ 8)) (signed 8 (b % 2 ^ 8)) a-low b-low)
+      (read (signed 8 (a / 2 ^ 8)) (signed 8 (b / 2 ^ 8)) a-high b-high))
 
   -- four −128 apart, one of the products is at most 128·127, and the exact sum fits 16 bits
   fits-low : (a % 2 ^ 8 ≡ 128 → b % 2 ^ 8 ≡ 128 → ⊥) → Within 32768 32767 (exact a b)
   fits-low short =
       widened 32512 32640 32768 32767 (exact a b) (omega arith) (omega arith)
       (sum-within 16256 16256 16256 16384 (signed 8 (a % 2 ^ 8) *ℤ signed 8 (b % 2 ^ 8)) (signed 8 (a / 2 ^ 8) *ℤ signed 8 (b / 2 ^ 8))
-      (product-short (signed 8 (a % 2 ^ 8)) (signed 8 (b % 2 ^ 8)) a-low b-low (λ e f. short (lowest-byte (a % 2 ^ 8) (omega arith) e) (lowest-byte (b % 2 ^ 8) (omega arith) f)))
+      (product-short (signed 8 (a % 2 ^ 8)) (signed 8 (b % 2 ^ 8)) a-low b-low
+      (λ e f. short (lowest-byte (a % 2 ^ 8) (omega arith) e) (lowest-byte (b % 2 ^ 8) (omega arith) f)))
       (product-within (signed 8 (a / 2 ^ 8)) (signed 8 (b / 2 ^ 8)) a-high b-high))
 
   fits-high : (a / 2 ^ 8 ≡ 128 → b / 2 ^ 8 ≡ 128 → ⊥) → Within 32768 32767 (exact a b)
@@ -67,7 +69,8 @@ module _ (a b : ℕ) (ha : a < 2 ^ 16) (hb : b < 2 ^ 16) where
       widened 32512 32640 32768 32767 (exact a b) (omega arith) (omega arith)
       (sum-within 16256 16384 16256 16256 (signed 8 (a % 2 ^ 8) *ℤ signed 8 (b % 2 ^ 8)) (signed 8 (a / 2 ^ 8) *ℤ signed 8 (b / 2 ^ 8))
       (product-within (signed 8 (a % 2 ^ 8)) (signed 8 (b % 2 ^ 8)) a-low b-low)
-      (product-short (signed 8 (a / 2 ^ 8)) (signed 8 (b / 2 ^ 8)) a-high b-high (λ e f. short (lowest-byte (a / 2 ^ 8) (omega arith) e) (lowest-byte (b / 2 ^ 8) (omega arith) f))))
+      (product-short (signed 8 (a / 2 ^ 8)) (signed 8 (b / 2 ^ 8)) a-high b-high
+      (λ e f. short (lowest-byte (a / 2 ^ 8) (omega arith) e) (lowest-byte (b / 2 ^ 8) (omega arith) f))))
 
   fits : (Four a b → ⊥) → Within 32768 32767 (exact a b)
   fits apart = by (eqb (a % 2 ^ 8) 128) (eqb (b % 2 ^ 8) 128) refl refl

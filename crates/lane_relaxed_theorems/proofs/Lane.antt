@@ -68,9 +68,11 @@ module _ (f : ℕ → ℕ → ℕ) (bit : Keeps 2 f) where
   unfolding bitwise
   bitwise-split k m x y =
       ap₂ (λ (p q : List ℕ). joined 1 (zip f p q)) (bits-split k m x) (bits-split k m y)
-      ∙ ap (joined 1) (zip-append f (digits 1 k (x % 2 ^ k)) (digits 1 k (y % 2 ^ k)) (digits 1 m (x / 2 ^ k)) (digits 1 m (y / 2 ^ k)) (length-digits 1 k (x % 2 ^ k) ∙ sym (length-digits 1 k (y % 2 ^ k))))
+      ∙ ap (joined 1) (zip-append f (digits 1 k (x % 2 ^ k)) (digits 1 k (y % 2 ^ k)) (digits 1 m (x / 2 ^ k)) (digits 1 m (y / 2 ^ k))
+      (length-digits 1 k (x % 2 ^ k) ∙ sym (length-digits 1 k (y % 2 ^ k))))
       ∙ joined-append 1 (zip f (digits 1 k (x % 2 ^ k)) (digits 1 k (y % 2 ^ k))) (zip f (digits 1 m (x / 2 ^ k)) (digits 1 m (y / 2 ^ k)))
-      ∙ ap (λ (n : ℕ). joined 1 (zip f (digits 1 k (x % 2 ^ k)) (digits 1 k (y % 2 ^ k))) + 2 ^ n * joined 1 (zip f (digits 1 m (x / 2 ^ k)) (digits 1 m (y / 2 ^ k))))
+      ∙ ap (λ (n : ℕ). joined 1 (zip f (digits 1 k (x % 2 ^ k)) (digits 1 k (y % 2 ^ k))) + 2 ^ n * joined 1
+      (zip f (digits 1 m (x / 2 ^ k)) (digits 1 m (y / 2 ^ k))))
       (one-mul _ ∙ bits-of k (x % 2 ^ k) (y % 2 ^ k))
 
   -- the lanes of a bitwise operation are the operations of the lanes
@@ -148,7 +150,8 @@ module _ (w n x i : ℕ) (h : i < n) where
   upper : getD (digits (w + w) n x) i 0 / 2 ^ w ≡ getD (digits w (2 * n) x) (2 * i + 1) 0
   upper =
       ap (λ (d : ℕ). d / 2 ^ w) (digit-at (w + w) n x i h) ∙ field (x / 2 ^ ((w + w) * i)) w w
-      ∙ ap (λ (q : ℕ). q % 2 ^ w) (shr-shr x ((w + w) * i) w ∙ ap (λ (k : ℕ). x / 2 ^ k) (ap (λ (k : ℕ). k + w) (twice w i) ∙ next)) ∙ sym (digit-at w (2 * n) x (2 * i + 1) (omega arith))
+      ∙ ap (λ (q : ℕ). q % 2 ^ w) (shr-shr x ((w + w) * i) w ∙ ap (λ (k : ℕ). x / 2 ^ k) (ap (λ (k : ℕ). k + w) (twice w i) ∙ next))
+      ∙ sym (digit-at w (2 * n) x (2 * i + 1) (omega arith))
     where
       next : w * (2 * i) + w ≡ w * (2 * i + 1)
       next = sym (mul-add w (2 * i) 1 ∙ ap (λ (k : ℕ). w * (2 * i) + k) (mul-one w))

@@ -92,7 +92,8 @@ laneselect-allowed w whole x y m i h = at-bitselect w whole i h x y m ∙ picked
 
 pub q15mulr-allowed : (x y : ℕ) → ByChoice 0 16 (relaxed-q15mulr x y) (λ i. multiplied (extract 16 x i) (extract 16 y i))
 q15mulr-allowed x y i h =
-    at-binary 16 refl i h (iq15mulrsat-s 16) (λ a b p q. sat-s-lt 16 (floor (signed 16 a *ℤ signed 16 b +ℤ pos 16384) 15)) x y ∙ product (extract 16 x i) (extract 16 y i)
+    at-binary 16 refl i h (iq15mulrsat-s 16) (λ a b p q. sat-s-lt 16 (floor (signed 16 a *ℤ signed 16 b +ℤ pos 16384) 15)) x y
+    ∙ product (extract 16 x i) (extract 16 y i)
 
 -- A NaN of the format is a pattern of its width, so min and max keep to it.
 whole-lanes : (f : Format) → width f * (128 / width f) ≡ 128
@@ -215,7 +216,8 @@ module _ (x y i : ℕ) (h : i < 8) (low : extract 8 y (2 * i) ≤ 127) (high : e
   pub dot-of-seven : Exact x y i
   dot-of-seven =
       record {
-        sum = read ∙ ap₂ _+ℤ_ (ap₂ (λ (p q : ℕ). signed 8 p *ℤ signed 8 q) (halves-8 x i h .low) (halves-8 y i h .low)) (ap₂ (λ (p q : ℕ). signed 8 p *ℤ signed 8 q) (halves-8 x i h .high) (halves-8 y i h .high));
+        sum = read ∙ ap₂ _+ℤ_ (ap₂ (λ (p q : ℕ). signed 8 p *ℤ signed 8 q) (halves-8 x i h .low) (halves-8 y i h .low))
+            (ap₂ (λ (p q : ℕ). signed 8 p *ℤ signed 8 q) (halves-8 x i h .high) (halves-8 y i h .high));
         above = subst⁻¹ (λ (z : ℤ). negℤ (pos 32512) ≤ℤ z) read (from-end (exact (extract 16 x i) (extract 16 y i)) within);
         below = subst⁻¹ (λ (z : ℤ). z ≤ℤ pos 32258) read (to-end (exact (extract 16 x i) (extract 16 y i)) within);
       }

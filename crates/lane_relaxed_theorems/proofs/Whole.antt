@@ -26,7 +26,8 @@ sum-within lo hi lo' hi' (pos a) (negsuc b) h k = either a (suc b) (ltb a (suc b
 sum-within lo hi lo' hi' (negsuc a) (pos b) h k = either b (suc a) (ltb b (suc a)) refl (omega arith) (omega arith)
 sum-within lo hi lo' hi' (negsuc a) (negsuc b) h k = omega arith
 
-difference : (a b : ℕ) (t : Bool) → ltb a (suc b) ≡ t → (a % 2 ^ 16 + (2 ^ 16 - suc (b % 2 ^ 16))) % 2 ^ 16 ≡ modulo 16 (cond t (negsuc (suc b - suc a)) (pos (a - suc b)))
+difference : (a b : ℕ) (t : Bool) → ltb a (suc b) ≡ t → (a % 2 ^ 16 + (2 ^ 16 - suc (b % 2 ^ 16))) % 2 ^ 16
+    ≡ modulo 16 (cond t (negsuc (suc b - suc a)) (pos (a - suc b)))
 difference a b true e = let l = ltb-true a (suc b) e in omega arith
 difference a b false e = let l = ltb-false a (suc b) e in omega arith
 
@@ -55,7 +56,8 @@ product-modulo (pos a) (pos b) h k =
     ap₂ (λ (u v : ℕ). u * v % 2 ^ 16) (mod-eq-of-lt (omega arith)) (mod-eq-of-lt (omega arith))
 product-modulo (pos a) (negsuc b) h k = crossed a b h k
 product-modulo (negsuc a) (pos b) h k =
-    ap (λ (u : ℕ). u % 2 ^ 16) (mul-comm (2 ^ 16 - suc (a % 2 ^ 16)) (b % 2 ^ 16)) ∙ crossed b a k h ∙ ap (λ (u : ℕ). modulo 16 (negℤ (pos u))) (mul-comm b (suc a))
+    ap (λ (u : ℕ). u % 2 ^ 16) (mul-comm (2 ^ 16 - suc (a % 2 ^ 16)) (b % 2 ^ 16)) ∙ crossed b a k h
+    ∙ ap (λ (u : ℕ). modulo 16 (negℤ (pos u))) (mul-comm b (suc a))
 product-modulo (negsuc a) (negsuc b) h k =
     let u = 2 ^ 16 - suc (a % 2 ^ 16) in
     let v = 2 ^ 16 - suc (b % 2 ^ 16) in

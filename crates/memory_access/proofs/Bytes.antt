@@ -18,7 +18,8 @@ module _ (m : List ℕ) (at : ℕ) where
   unfolding number-at
   read-byte h = let k : at < length m = omega arith in rw (drop-cons m at 0 k) (sym (add-zero (getD m at 0)))
 
-  pub read-twice : (n : ℕ) → at + n ≤ length m → {lo hi : ℕ} → lo ≡ number-at m at n → hi ≡ number-at m (at + n) n → lo + 2 ^ (8 * n) * hi ≡ number-at m at (n + n)
+  pub read-twice : (n : ℕ) → at + n ≤ length m → {lo hi : ℕ} → lo ≡ number-at m at n → hi ≡ number-at m (at + n) n → lo + 2 ^ (8 * n) * hi
+      ≡ number-at m at (n + n)
   unfolding number-at
   read-twice n h el eh =
       ap₂ (λ (lo hi : ℕ). lo + 2 ^ (8 * n) * hi) el eh

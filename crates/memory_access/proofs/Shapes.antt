@@ -46,7 +46,8 @@ module _ (m : List ℕ) (at : ℕ) where
     unfolding load-lane
     lane-not-loaded h = rw (le-ltb lane (128 / w) h)
 
-    pub lane-stored : {c : ℕ} {a : Stored} → lane < 128 / w → c ≡ extract w x lane → a ≡ stored (store (w / 8) c m at) m → a ≡ stored (store-lane w x lane m at) m
+    pub lane-stored : {c : ℕ} {a : Stored} → lane < 128 / w → c ≡ extract w x lane → a ≡ stored (store (w / 8) c m at) m → a
+        ≡ stored (store-lane w x lane m at) m
     unfolding store-lane
     lane-stored h e q = rw (lt-ltb lane (128 / w) h, ← e) q
 

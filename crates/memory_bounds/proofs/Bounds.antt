@@ -29,7 +29,8 @@ picked : {A B : Type 0} {a : A} {b : B} (s : ℕ) (e : A) (t : Bool) (f : A → 
 picked s e true f p q = ap (λ b. answered (given b)) (q ∙ ap f (same p))
 picked s e false f p q = never p
 
-left : {A B : Type 0} {r : ℕ} (s : ℕ) (e : A) (f : B) (t : Bool) → past 7 r ≡ cond t (answered (given e)) (past 7 s) → past 7 r ≡ cond t (answered (given f)) (past 7 s)
+left : {A B : Type 0} {r : ℕ} (s : ℕ) (e : A) (f : B) (t : Bool) → past 7 r ≡ cond t (answered (given e)) (past 7 s) → past 7 r
+    ≡ cond t (answered (given f)) (past 7 s)
 left s e f true p = never (sym p)
 left s e f false p = ap (past 7) (same-shortfall p)
 

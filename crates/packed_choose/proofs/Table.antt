@@ -44,10 +44,32 @@ sixty-four = (refl, refl)
 
 pub unary-divides : (op count : ℕ) → Divides (unary-at op count .width)
 unary-divides op count =
-    at-each (λ (e : Unary). e .width) (unaries count)
-    (eight, (sixteen, (thirty-two, (sixty-four, (eight, (sixteen, (thirty-two, (sixty-four, (eight, (sixteen, (thirty-two, (sixty-four, (eight, tt))))))))))))) _ sixty-four op
+    at-each (λ (e : Unary). e .width) (unaries count) (
+      eight,
+      (
+        sixteen,
+        (
+          thirty-two,
+          (
+            sixty-four,
+            (eight, (sixteen, (thirty-two, (sixty-four, (eight, (sixteen, (thirty-two, (sixty-four, (eight, tt))))))))),
+          ),
+        ),
+      ),
+    ) _ sixty-four op
 
 pub binary-divides : (op : ℕ) → Divides (binary-at op .width)
 binary-divides op =
-    at-each (λ (e : Binary). e .width) binaries
-    (eight, (sixteen, (thirty-two, (sixty-four, (eight, (sixteen, (thirty-two, (sixty-four, (eight, (sixteen, (thirty-two, (sixty-four, (eight, (sixteen, tt)))))))))))))) _ sixty-four op
+    at-each (λ (e : Binary). e .width) binaries (
+      eight,
+      (
+        sixteen,
+        (
+          thirty-two,
+          (
+            sixty-four,
+            (eight, (sixteen, (thirty-two, (sixty-four, (eight, (sixteen, (thirty-two, (sixty-four, (eight, (sixteen, tt)))))))))),
+          ),
+        ),
+      ),
+    ) _ sixty-four op

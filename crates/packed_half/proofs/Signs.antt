@@ -63,7 +63,8 @@ one-more v zero a =
 one-more v (suc n) a =
     let up : 1 + v + ((1 + v) * n + v) ≡ (1 + v) * suc n + v = rw (mul-suc) (omega arith) in
     ap (λ (r : ℕ). sign-bit (1 + v) (a % 2 ^ (1 + v)) + 2 * r)
-    (one-more v n (a / 2 ^ (1 + v)) ∙ ap (λ (q : ℕ). signs (1 + v) n (a / 2 ^ (1 + v)) + q % 2 * 2 ^ n) (shr-shr a (1 + v) ((1 + v) * n + v) ∙ ap (λ (k : ℕ). a / 2 ^ k) up))
+    (one-more v n (a / 2 ^ (1 + v)) ∙ ap (λ (q : ℕ). signs (1 + v) n (a / 2 ^ (1 + v)) + q % 2 * 2 ^ n)
+    (shr-shr a (1 + v) ((1 + v) * n + v) ∙ ap (λ (k : ℕ). a / 2 ^ k) up))
     ∙ above (sign-bit (1 + v) (a % 2 ^ (1 + v))) (signs (1 + v) n (a / 2 ^ (1 + v))) (a / 2 ^ ((1 + v) * suc n + v) % 2) (2 ^ n)
     ∙ ap (λ (p : ℕ). signs (1 + v) (suc n) a + a / 2 ^ ((1 + v) * suc n + v) % 2 * p) (sym (pow-suc 2 n))
 

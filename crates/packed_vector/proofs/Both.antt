@@ -69,7 +69,8 @@ module _ (w : ℕ) (d : Divides w) (fits : 64 / w + 64 / w ≤ 32) (a : V128) (h
       above el eh
       ∙ ap₂ (λ (l h : ℕ). l + 2 ^ (64 / w) * h) el eh
       ∙ ap (λ (n : ℕ). joined 1 (map (sign-bit w) (digits w (64 / w) (a .lo))) + 2 ^ n * joined 1 (map (sign-bit w) (digits w (64 / w) (a .hi))))
-      (sym (one-mul (length (map (sign-bit w) (digits w (64 / w) (a .lo)))) ∙ length-map (digits w (64 / w) (a .lo)) (sign-bit w) ∙ length-digits w (64 / w) (a .lo)))
+      (sym (one-mul (length (map (sign-bit w) (digits w (64 / w) (a .lo)))) ∙ length-map (digits w (64 / w) (a .lo)) (sign-bit w)
+      ∙ length-digits w (64 / w) (a .lo)))
       ∙ sym (joined-append 1 (map (sign-bit w) (digits w (64 / w) (a .lo))) (map (sign-bit w) (digits w (64 / w) (a .hi))))
       ∙ ap (joined 1) (sym (map-append (sign-bit w) (digits w (64 / w) (a .lo)) (digits w (64 / w) (a .hi))))
       ∙ ap (λ (ds : List ℕ). joined 1 (map (sign-bit w) ds)) (sym (lanes-halves w (64 / w) (d .0) (d .1) (a .lo) (a .hi) ha))

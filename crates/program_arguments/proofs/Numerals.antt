@@ -37,7 +37,8 @@ beyond base v (c ∷ cs) hb h = by (ltb (digit c) base) (beyond base (v * base +
     by false rest = refl
 
 -- One character more of a text of which i are read.
-module _ (text : List ℕ) (base v i d : ℕ) (h : i < length text) (is : d ≡ digit (getD text i 0)) (reached : numeral base 0 text ≡ numeral base v (drop i text)) where
+module _ (text : List ℕ) (base v i d : ℕ) (h : i < length text) (is : d ≡ digit (getD text i 0))
+    (reached : numeral base 0 text ≡ numeral base v (drop i text)) where
   here : numeral base 0 text ≡ cond (ltb d base) (numeral base (v * base + d) (drop (i + 1) text)) none
   here = reached ∙ rw (drop-cons text i 0 h, add-one i, is)
 

@@ -134,7 +134,8 @@ unfolding assembled
 nothing-yet text out =
     record { done = []; inside = omega arith; most = omega arith; lines = omega arith; counted = refl; wrote = no-more out 0; is = refl }
 
-module _ {text start out two : List ℕ} {from at n k end : ℕ} (r : Taken) (p : SoFar text start out from at n k) (scan : Scanned newline text from end) (t : TakesLine (line (take (end - from) (drop from text))) n at out two r) where
+module _ {text start out two : List ℕ} {from at n k end : ℕ} (r : Taken) (p : SoFar text start out from at n k) (scan : Scanned newline text from end)
+    (t : TakesLine (line (take (end - from) (drop from text))) n at out two r) where
   abbrev here : Line
   here = line (take (end - from) (drop from text))
 

@@ -57,7 +57,8 @@ unfolding lines
 lines-more k zero list = rw (add-zero k) (sym (append-nil (numbered k (take 32 list))))
 lines-more k (suc n) list =
     append-assoc (numbered k (take 32 list)) (lines (suc k) n (drop 32 list)) _
-    ∙ ap (λ (r : List ℕ). numbered k (take 32 list) ++ r) (rw (further, ← drop-drop (32 * n) 32 list, add-suc k n, ← suc-add k n) (lines-more (suc k) n (drop 32 list)))
+    ∙ ap (λ (r : List ℕ). numbered k (take 32 list) ++ r)
+    (rw (further, ← drop-drop (32 * n) 32 list, add-suc k n, ← suc-add k n) (lines-more (suc k) n (drop 32 list)))
   where
     further : 32 * suc n ≡ 32 + 32 * n
     further = omega arith

@@ -43,7 +43,8 @@ pub few-steps : (list : List ℕ) (place limit q : ℕ) (m : Machine) → run li
 unfolding run
 few-steps list place limit q m = by (eqb (list-refusal (length list) place limit) 0) refl where
   by : (t : Bool) → eqb (list-refusal (length list) place limit) 0 ≡ t
-      → cond t (steps (length list / 32 - place) limit place (drop (32 * place) list) (taken-up place m)) (nothing-done m (stopped (list-refusal (length list) place limit))) .outcome ≡ paused q
+      → cond t (steps (length list / 32 - place) limit place (drop (32 * place) list) (taken-up place m))
+      (nothing-done m (stopped (list-refusal (length list) place limit))) .outcome ≡ paused q
       → length list / 32 ≤ 256
   by true t g = omega (arith, fits (length list) place limit (eqb-true _ 0 t) .short)
   by false t g = absurd (let z : _≡_ {A = ℕ} 0 1 = cc in omega arith)

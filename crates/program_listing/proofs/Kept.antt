@@ -37,7 +37,8 @@ steps-kept (suc left) (suc limit) place list m = go (eqb n 0) (λ next. steps-ke
     n = refusal (profile (instruction (operation (take 32 list)))) (m .kind) (take 32 list)
 
     go : (t : Bool) → ((next : Machine) → length (steps left limit (suc place) (drop 32 list) next .machine .registers) ≡ length (next .registers))
-        → length (after (cond t (given (effect (instruction (operation (take 32 list))) place m (take 32 list))) (refused n)) (λ next. counting 1 (steps left limit (suc place) (drop 32 list) next)) (λ k. nothing-done m (stopped k)) .machine .registers)
+        → length (after (cond t (given (effect (instruction (operation (take 32 list))) place m (take 32 list))) (refused n))
+        (λ next. counting 1 (steps left limit (suc place) (drop 32 list) next)) (λ k. nothing-done m (stopped k)) .machine .registers)
         ≡ length (m .registers)
     go true later = later _ ∙ effect-kept (instruction (operation (take 32 list))) place m (take 32 list)
     go false later = refl
@@ -51,7 +52,8 @@ run-kept list place limit m = go (eqb (list-refusal (length list) place limit) 0
     up false = refl
 
     go : (t : Bool)
-        → length (cond t (steps (length list / 32 - place) limit place (drop (32 * place) list) (taken-up place m)) (nothing-done m (stopped (list-refusal (length list) place limit))) .machine .registers)
+        → length (cond t (steps (length list / 32 - place) limit place (drop (32 * place) list) (taken-up place m))
+        (nothing-done m (stopped (list-refusal (length list) place limit))) .machine .registers)
         ≡ length (m .registers)
     go true = steps-kept (length list / 32 - place) limit place (drop (32 * place) list) (taken-up place m) ∙ up (eqb place 0)
     go false = refl

@@ -33,15 +33,27 @@ view text pre end zero q long room nine e =
 view text pre end (suc m) q long room nine e =
     let place : end ≡ suc (end - 1) = omega arith in
     let size : length (take (end - 1) text) ≡ length (pre ++ digits 10 m (q / 10)) =
-    omega (arith, length-take-le (end - 1) text (omega arith), length-take-le end text room, ap length e, length-append pre (digits 10 (suc m) q), length-digits 10 (suc m) q, length-append pre (digits 10 m (q / 10)), length-digits 10 m (q / 10)) in
+    omega (
+      arith,
+      length-take-le (end - 1) text (omega arith),
+      length-take-le end text room,
+      ap length e,
+      length-append pre
+          (digits 10 (suc m) q),
+      length-digits 10 (suc m) q,
+      length-append pre (digits 10 m (q / 10)),
+      length-digits 10 m (q / 10),
+    ) in
     let both : take (end - 1) text ++ (getD text (end - 1) 0 ∷ []) ≡ (pre ++ digits 10 m (q / 10)) ++ (glyph (q % 10) ∷ []) =
-    sym (ap (λ (k : ℕ). take k text) place ∙ take-suc text (end - 1) 0 (omega arith)) ∙ e ∙ sym (append-assoc pre (digits 10 m (q / 10)) (glyph (q % 10) ∷ [])) in
+    sym (ap (λ (k : ℕ). take k text) place ∙ take-suc text (end - 1) 0 (omega arith)) ∙ e
+    ∙ sym (append-assoc pre (digits 10 m (q / 10)) (glyph (q % 10) ∷ [])) in
     let parts = snoc-parts _ _ _ _ size both in
     record { fewer = m; one-less = refl; front = parts .0; last = parts .1 ∙ glyph-is (q % 10) (omega arith) }
 
 module _ (text pre : List ℕ) (end m q : ℕ) (long : 10 ≤ end) (room : end ≤ length text) (v : View text pre end m q) (small : q < 10 ^ m) where
   -- one digit more than the first of them
-  together : (r f l : ℕ) (out : List ℕ) → r / 10 ≡ f → r % 10 ≡ l → take (end - 1) out ≡ pre ++ digits 10 (v .fewer) f → getD out (end - 1) 0 ≡ 48 + l → end ≤ length out
+  together : (r f l : ℕ) (out : List ℕ) → r / 10 ≡ f → r % 10 ≡ l → take (end - 1) out ≡ pre ++ digits 10 (v .fewer) f → getD out (end - 1) 0 ≡ 48 + l
+      → end ≤ length out
       → take end out ≡ pre ++ digits 10 m r
   unfolding digits
   together r f l out ef el front last fits =
@@ -79,7 +91,8 @@ module _ (text pre : List ℕ) (end m q : ℕ) (long : 10 ≤ end) (room : end �
       let nine : q % 10 ≡ 9 = not-less (q % 10) (omega arith) (λ l. h (omega (arith, v .last))) in
       let here : getD out (end - 1) 0 ≡ 48 =
       ap (λ (k : ℕ). getD out k 0) (sym (add-zero (end - 1))) ∙ sym (getD-drop (end - 1) out 0 0) ∙ ap (λ (l : List ℕ). getD l 0 0) behind
-      ∙ getD-drop (end - 1) (set text (end - 1) 48) 0 0 ∙ ap (λ (k : ℕ). getD (set text (end - 1) 48) k 0) (add-zero (end - 1)) ∙ getD-set-same text (end - 1) 48 0 (omega arith) in (
+      ∙ getD-drop (end - 1) (set text (end - 1) 48) 0 0 ∙ ap (λ (k : ℕ). getD (set text (end - 1) 48) k 0) (add-zero (end - 1))
+      ∙ getD-set-same text (end - 1) 48 0 (omega arith) in (
         rw (v .one-less, ten (v .fewer)) (omega (arith, front .0)),
         together (q + 1) (q / 10 + 1) 0 out (omega arith) (omega arith) (front .1) here (omega arith),
       )

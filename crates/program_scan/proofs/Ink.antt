@@ -37,7 +37,8 @@ little-next n i w rest h e =
 
 -- ---- the text of a position
 
-pub laid : (text pos rest : List ℕ) (n N : ℕ) → length pos ≡ 9 → Digits n N → text ≡ (pos ++ decimal N) ++ rest → take (8 + n) text ≡ pos ++ digits 10 (n - 1) (N / 10)
+pub laid : (text pos rest : List ℕ) (n N : ℕ) → length pos ≡ 9 → Digits n N → text ≡ (pos ++ decimal N) ++ rest → take (8 + n) text ≡ pos
+    ++ digits 10 (n - 1) (N / 10)
 laid text pos rest n N nine c e =
     let some = c .some in
     let front = digits 10 (n - 1) (N / 10) in
@@ -99,12 +100,24 @@ pub line-is : (text : List ℕ) (n w N d e : ℕ) → Ready text n w N → d < 1
 unfolding codes
 line-is text n w N d e ready hd he =
     let front = digits 10 (n - 1) (N / 10) in
-    rw (decimal-is n N (ready .count), front-and-last n N (ready .count .some), one-digit d hd, one-digit e he, ready .head, ready .tail, low-word (N % 10) (omega arith), middle, high-word d e hd he)
+    rw (
+      decimal-is n N (ready .count),
+      front-and-last n N (ready .count .some),
+      one-digit d hd,
+      one-digit e he,
+      ready .head,
+      ready .tail,
+      low-word (N % 10)
+          (omega arith),
+      middle,
+      high-word d e hd he,
+    )
     (rw (append-assoc front, append-assoc (codes "position ") front))
 
 -- ---- the moves
 
-pub word-put : {out : List ℕ} {r : ℕ} (b : List ℕ) (at w n : ℕ) → out ≡ paste b at (little n w) n → at + n ≡ r → at + n ≤ length b → Wrote b at (little n w) out r
+pub word-put : {out : List ℕ} {r : ℕ} (b : List ℕ) (at w n : ℕ) → out ≡ paste b at (little n w) n → at + n ≡ r → at + n ≤ length b
+    → Wrote b at (little n w) out r
 word-put b at w n e m room = rw (e, ← m) (pasted b at (little n w) n (omega (arith, length-little n w)))
 
 module _ (b t : List ℕ) (at n : ℕ) (few : n ≤ 20) (long : 48 ≤ length t) (room : at + 44 ≤ length b) where
@@ -130,7 +143,8 @@ module _ (b t : List ℕ) (at n : ℕ) (few : n ≤ 20) (long : 48 ≤ length t)
       let all : n + 8 ≡ 8 + n = omega arith in
       let part : take (at + n) one ≡ take at b ++ take n t =
       sym (take-take (at + n) (at + 24) one (omega arith)) ∙ ap (take (at + n)) (take-paste b at t 24 (omega arith) (omega arith))
-      ∙ ap (λ (k : ℕ). take (k + n) (take at b ++ take 24 t)) (sym short) ∙ take-append-add (take at b) (take 24 t) n ∙ ap (λ (l : List ℕ). take at b ++ l) (take-take n 24 t (omega arith))
+      ∙ ap (λ (k : ℕ). take (k + n) (take at b ++ take 24 t)) (sym short) ∙ take-append-add (take at b) (take 24 t) n
+      ∙ ap (λ (l : List ℕ). take at b ++ l) (take-take n 24 t (omega arith))
       in
       take-paste one (at + n) (drop n t) 8 (omega (arith, length-one)) (omega (arith, rest))
       ∙ ap (λ (l : List ℕ). l ++ take 8 (drop n t)) part ∙ append-assoc (take at b) (take n t) (take 8 (drop n t))
@@ -140,12 +154,15 @@ module _ (b t : List ℕ) (at n : ℕ) (few : n ≤ 20) (long : 48 ≤ length t)
   pub behind-tail : drop (at + n + 8 + 16) (paste (paste b at t 24) (at + n) (drop n t) 8) ≡ drop (at + n + 8 + 16) b
   behind-tail =
       let same : at + n + 8 + 16 ≡ at + 24 + n = omega arith in
-      sym (drop-drop 16 (at + n + 8) two) ∙ ap (drop 16) (drop-paste one (at + n) (drop n t) 8 (omega (arith, length-one)) (omega (arith, rest))) ∙ drop-drop 16 (at + n + 8) one
-      ∙ ap (λ (k : ℕ). drop k one) same ∙ sym (drop-drop n (at + 24) one) ∙ ap (drop n) (drop-paste b at t 24 (omega arith) (omega arith)) ∙ drop-drop n (at + 24) b
+      sym (drop-drop 16 (at + n + 8) two) ∙ ap (drop 16) (drop-paste one (at + n) (drop n t) 8 (omega (arith, length-one)) (omega (arith, rest)))
+      ∙ drop-drop 16 (at + n + 8) one
+      ∙ ap (λ (k : ℕ). drop k one) same ∙ sym (drop-drop n (at + 24) one) ∙ ap (drop n) (drop-paste b at t 24 (omega arith) (omega arith))
+      ∙ drop-drop n (at + 24) b
       ∙ ap (λ (k : ℕ). drop k b) (sym same)
 
 -- a text whose end was put where its start stands already
-pub ended : {two five : List ℕ} {r : ℕ} (b x y : List ℕ) (at m : ℕ) → Wrote two m y five r → m ≡ at + length x → take m two ≡ take at b ++ x → drop (m + length y) two ≡ drop (m + length y) b
+pub ended : {two five : List ℕ} {r : ℕ} (b x y : List ℕ) (at m : ℕ) → Wrote two m y five r → m ≡ at + length x → take m two ≡ take at b ++ x
+    → drop (m + length y) two ≡ drop (m + length y) b
     → length two ≡ length b → m + length y ≤ length b → Wrote b at (x ++ y) five r
 unfolding written
 ended {two} {five} {r} b x y at m p place start end size room =
@@ -155,7 +172,8 @@ ended {two} {five} {r} b x y at m p place start end size room =
     let last : at + length (x ++ y) ≡ m + length y = omega arith in
     record {
       next = p .next ∙ rw (fits, all, last);
-      is = p .is ∙ rw (fits, all, last, start, end) (append-assoc (take at b) x (y ++ drop (m + length y) b) ∙ ap (λ (l : List ℕ). take at b ++ l) (sym (append-assoc x y (drop (m + length y) b))));
+      is = p .is ∙ rw (fits, all, last, start, end)
+          (append-assoc (take at b) x (y ++ drop (m + length y) b) ∙ ap (λ (l : List ℕ). take at b ++ l) (sym (append-assoc x y (drop (m + length y) b))));
     }
 
 -- The moves together. What the first two bring is `two`; `three`, `four` and `five` have a word more each.
@@ -175,7 +193,8 @@ module _ (b t two three four five : List ℕ) (at n w code : ℕ) (few : n ≤ 2
   size-three = ap length is-three ∙ length-paste two (at + 8 + n) (little 8 w) 8 (omega (arith, size-two)) (omega (arith, length-little 8 w)) ∙ size-two
 
   size-four : length four ≡ length b
-  size-four = ap length is-four ∙ length-paste three (at + 16 + n) (little 4 544433507) 4 (omega (arith, size-three)) (omega (arith, length-little 4 544433507)) ∙ size-three
+  size-four = ap length is-four ∙ length-paste three (at + 16 + n) (little 4 544433507) 4 (omega (arith, size-three))
+      (omega (arith, length-little 4 544433507)) ∙ size-three
 
   put-tail : Wrote two (at + 8 + n) tail five (at + 24 + n)
   put-tail =
@@ -189,13 +208,15 @@ module _ (b t two three four five : List ℕ) (at n w code : ℕ) (few : n ≤ 2
       let behind : at + n + 8 + 16 ≡ at + 8 + n + length tail = omega (arith, length-tail) in
       ended b (take (8 + n) t) tail at (at + 8 + n) put-tail (omega (arith, length-take-le (8 + n) t (omega arith)))
       (ap (take (at + 8 + n)) is-two ∙ ap (λ (k : ℕ). take k (paste (paste b at t 24) (at + n) (drop n t) 8)) (sym before) ∙ before-tail b t at n few long room)
-      (ap (drop (at + 8 + n + length tail)) is-two ∙ ap (λ (k : ℕ). drop k (paste (paste b at t 24) (at + n) (drop n t) 8)) (sym behind) ∙ behind-tail b t at n few long room
+      (ap (drop (at + 8 + n + length tail)) is-two ∙ ap (λ (k : ℕ). drop k (paste (paste b at t 24) (at + n) (drop n t) 8)) (sym behind)
+      ∙ behind-tail b t at n few long room
       ∙ ap (λ (k : ℕ). drop k b) behind)
       size-two (omega (arith, length-tail))
 
   pub line-put : (N d e : ℕ) → Ready t n w N → d < 10 → e < 10 → code ≡ d + 65536 * e → Wrote b at (line (met N d e)) five (at + 24 + n)
   line-put N d e ready hd he is =
-      said-as (line-is t n w N d e ready hd he ∙ ap (λ (k : ℕ). take (8 + n) t ++ (little 8 w ++ (little 4 544433507 ++ little 4 (170926128 + k)))) (sym is)) put-all
+      said-as (line-is t n w N d e ready hd he ∙ ap (λ (k : ℕ). take (8 + n) t ++ (little 8 w ++ (little 4 544433507 ++ little 4 (170926128 + k))))
+      (sym is)) put-all
 
 -- ---- the line of a position, or none
 

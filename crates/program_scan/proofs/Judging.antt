@@ -70,7 +70,8 @@ module _ (t : ℕ) (small : t ≤ 8) where
           let again : p + L + after (j + 32 * n) ≡ p + 8 * j + n + L = omega (arith, row) in
           let code = each (j + 32 * n) (omega arith)
           ∙ ap₂ (λ (a b : ℕ). coded (distance (window s a) m) (distance (window s b) m) t) here again in
-          ap₂ (λ (x y : List Meeting). x ++ y) (tolds-are j n hj (omega arith)) (told-is (p + 8 * j + n) (k + p + 8 * j + n) (getD codes (j + 32 * n) 0) (omega arith) code)
+          ap₂ (λ (x y : List Meeting). x ++ y) (tolds-are j n hj (omega arith))
+          (told-is (p + 8 * j + n) (k + p + 8 * j + n) (getD codes (j + 32 * n) 0) (omega arith) code)
           ∙ sym (shift-append k (all-from s m t L n (p + 8 * j)) (all-from s m t L 1 (p + 8 * j + n)))
           ∙ ap (shift k) (sym (parts m t L s n 1 (p + 8 * j)) ∙ ap (λ (c : ℕ). all-from s m t L c (p + 8 * j)) (add-one n))
 
@@ -89,7 +90,8 @@ module _ (t : ℕ) (small : t ≤ 8) where
 -- the codes of two rows of distances, one a frame behind the other
 module _ (bs first second codes : List ℕ) (p m t L : ℕ) (small : t ≤ 8) (here : Laid bs p m first 256) (later : Laid bs (p + L) m second 256)
     (judged : (i : ℕ) → i < 256 → getD codes i 0 ≡ coded (getD first i 0) (getD second i 0) t) where
-  each-is : (i : ℕ) → i < 256 → getD codes i 0 ≡ coded (distance (window (bits bs) (p + after i)) (mark m)) (distance (window (bits bs) (p + L + after i)) (mark m)) t
+  each-is : (i : ℕ) → i < 256 → getD codes i 0
+      ≡ coded (distance (window (bits bs) (p + after i)) (mark m)) (distance (window (bits bs) (p + L + after i)) (mark m)) t
   each-is i h = judged i h ∙ ap₂ (λ (d e : ℕ). coded d e t) (here .1 i h) (later .1 i h)
 
   pub plains : (i : ℕ) → i < 256 → Plain (getD codes i 0)

@@ -29,7 +29,8 @@ module _ (m t L from count : ℕ) (window : List ℕ) (s : Scan) (block : List �
 
   -- no position of the segment is left
   pub none : min positions (edge count s) ≤ s .from
-      → Lined m t L from count window s block block (record { held = 0; done = true; scan = record { before = s .before; filled = s .filled; from = positions } })
+      → Lined m t L from count window s block block
+      (record { held = 0; done = true; scan = record { before = s .before; filled = s .filled; from = positions } })
   none h =
       let zero : min positions (edge count s) - s .from ≡ 0 = omega arith in
       record {
@@ -43,9 +44,11 @@ module _ (m t L from count : ℕ) (window : List ℕ) (s : Scan) (block : List �
         full = λ e. absurd (true≢false e);
       }
 
-  module _ (left : List ℕ) (held at : ℕ) (put : Put-to block (take (s .filled) window) (s .from) (min positions (edge count s)) m t L (8 * (from + s .before)) left held at) where
+  module _ (left : List ℕ) (held at : ℕ) (put : Put-to block (take (s .filled) window) (s .from) (min positions (edge count s)) m t L
+      (8 * (from + s .before)) left held at) where
     -- up to n positions
-    lined : (b : Bool) (to : ℕ) → min to (edge count s) - s .from ≡ at - s .from → at ≤ to → to ≤ positions → (b ≡ true → to ≡ positions) → (b ≡ false → at < min positions (edge count s))
+    lined : (b : Bool) (to : ℕ) → min to (edge count s) - s .from ≡ at - s .from → at ≤ to → to ≤ positions → (b ≡ true → to ≡ positions)
+        → (b ≡ false → at < min positions (edge count s))
         → Lined m t L from count window s block left (record { held = held; done = b; scan = record { before = s .before; filled = s .filled; from = to } })
     lined b to same low high all short =
         record {
@@ -60,7 +63,8 @@ module _ (m t L from count : ℕ) (window : List ℕ) (s : Scan) (block : List �
         }
 
     pub to-the-end : (b : Bool) → b ≡ true → at ≡ min positions (edge count s)
-        → Lined m t L from count window s block left (record { held = held; done = b; scan = record { before = s .before; filled = s .filled; from = positions } })
+        → Lined m t L from count window s block left
+        (record { held = held; done = b; scan = record { before = s .before; filled = s .filled; from = positions } })
     to-the-end b e all = lined b positions (omega arith) (omega (arith, put .inside)) (omega arith) (λ x. refl) (λ x. absurd (true≢false (sym e ∙ x)))
 
     pub part-of-it : (b : Bool) → b ≡ false → at < min positions (edge count s)

@@ -37,7 +37,8 @@ counted (suc k) (suc (suc n)) N a b lt ge =
     let some = positive n in
     let more : 9 < N = omega (arith, rw (ten n) at front) in
     places-more k N more
-    ∙ ap suc (counted k (suc n) (N / 10) (omega arith) (omega arith) (omega (arith, rw (ten (suc n)) at lt)) (λ h. let fewer : suc n - 1 ≡ n = omega arith in rw fewer (omega (arith, rw (ten n) at front))))
+    ∙ ap suc (counted k (suc n) (N / 10) (omega arith) (omega arith) (omega (arith, rw (ten (suc n)) at lt))
+    (λ h. let fewer : suc n - 1 ≡ n = omega arith in rw fewer (omega (arith, rw (ten n) at front))))
 
 -- and no more
 record Counted (n N : ℕ) : Type 0 where
@@ -51,7 +52,12 @@ tenth (suc zero) N h c = record { some = omega arith; below = rw (ten 1) (omega 
 tenth (suc (suc n)) N h c =
     let less : suc (suc n) - 1 ≡ suc n = omega arith in
     let front : 10 ^ suc n ≤ N / 10 = rw less at (c .above (omega arith)) in
-    record { some = omega arith; below = rw (ten (suc (suc n))) (omega (arith, c .below)); above = λ a. let more : suc (suc (suc n)) - 1 ≡ suc (suc n) = omega arith in rw (more, ten (suc n)) (omega arith) }
+    record {
+      some = omega arith;
+      below = rw (ten (suc (suc n))) (omega (arith, c .below));
+      above = λ a. let more : suc (suc (suc n)) - 1
+          ≡ suc (suc n) = omega arith in rw (more, ten (suc n)) (omega arith);
+    }
 
 counts : (k N : ℕ) → N < 10 ^ suc k → Counted (places k N) N
 unfolding places

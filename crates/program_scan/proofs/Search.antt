@@ -71,7 +71,8 @@ module _ (s m : List ℕ) (t L base : ℕ) {b x y : List ℕ} {h r : ℕ} (from 
       let place : from + (at - from) ≡ at = omega arith in
       said-as
       (ap (λ (k : ℕ). lines (shift base (all-from s m t L k from))) count
-      ∙ ap (λ (l : List Meeting). lines (shift base l)) (parts m t L s (at - from) n from ∙ ap (λ (q : ℕ). all-from s m t L (at - from) from ++ all-from s m t L n q) place)
+      ∙ ap (λ (l : List Meeting). lines (shift base l))
+      (parts m t L s (at - from) n from ∙ ap (λ (q : ℕ). all-from s m t L (at - from) from ++ all-from s m t L n q) place)
       ∙ ap lines (shift-append base (all-from s m t L (at - from) from) (all-from s m t L n at))
       ∙ lines-append (shift base (all-from s m t L (at - from) from)) (shift base (all-from s m t L n at)))
       (then before put)

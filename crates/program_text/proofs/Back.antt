@@ -153,7 +153,14 @@ module _ (q : ℕ → Bool) (plainly : (c : ℕ) → odd c ≡ false → q c ≡
 two-found : (b : ℕ) (cs : List ℕ) → b < 256 → find byte (skip (hex 2 b ++ cs)) ≡ found b cs
 unfolding find onward digits
 two-found b cs h =
-    rw (parts (glyph (b / 16 % 16)) (glyph-even (b / 16 % 16) high) .1, digit-glyph (b / 16 % 16) high, digit-glyph (b % 16) low, lt-ltb (b / 16 % 16) 16 high, lt-ltb (b % 16) 16 low)
+    rw (
+      parts (glyph (b / 16 % 16)) (glyph-even (b / 16 % 16) high) .1,
+      digit-glyph (b / 16 % 16) high,
+      digit-glyph (b % 16) low,
+      lt-ltb
+          (b / 16 % 16) 16 high,
+      lt-ltb (b % 16) 16 low,
+    )
     (ap (λ (n : ℕ). found n cs) whole-byte)
   where
     high : b / 16 % 16 < 16
@@ -179,7 +186,12 @@ bytes-taken : (s : List ℕ) → length s ≡ 32 → ((i : ℕ) → getD s i 0 <
 unfolding take-fields fields
 bytes-taken s l small zero p e = rw (append-nil (take p s), take-all p s (omega arith))
 bytes-taken s l small (suc n) p e =
-    rw (byte-taken p (getD s p 0) (fields byte n (suc p) s) (take p s ++ (0 ∷ replicate n 0)) (small p), set-at (take p s) 0 (replicate n 0) (getD s p 0) p (length-take-le p s (omega arith)), ← more)
+    rw (
+      byte-taken p (getD s p 0) (fields byte n (suc p) s) (take p s ++ (0 ∷ replicate n 0)) (small p),
+      set-at (take p s) 0 (replicate n 0) (getD s p 0) p
+          (length-take-le p s (omega arith)),
+      ← more,
+    )
     (bytes-taken s l small n (suc p) (omega arith))
   where
     more : take (suc p) s ++ replicate n 0 ≡ take p s ++ (getD s p 0 ∷ replicate n 0)
@@ -300,7 +312,8 @@ unfolding piece gap codes
 piece-ends k s =
     let l = shown s in
     free-append newline (l ++ (replicate (64 - length l) 32 ++ (32 ∷ []))) (35 ∷ 32 ∷ decimal k)
-    (free-append newline l (replicate (64 - length l) 32 ++ (32 ∷ [])) (free-shown newline (λ c e. parts c e .0) refl refl refl refl s) (blanks (64 - length l)))
+    (free-append newline l (replicate (64 - length l) 32 ++ (32 ∷ [])) (free-shown newline (λ c e. parts c e .0) refl refl refl refl s)
+    (blanks (64 - length l)))
     (free-decimal newline (λ c e. parts c e .0) k)
   where
     blanks : (n : ℕ) → free newline (replicate n 32 ++ (32 ∷ [])) ≡ true
@@ -333,7 +346,16 @@ unfolding of-lines lines pieces line statement onward stated
 lines-back zero list room j k l h m = no-bytes list (omega arith)
 lines-back (suc n) list zero j k l h m = absurd (not-suc-le-zero m)
 lines-back (suc n) list (suc room) j k l h m =
-    rw (numbered-piece k (take 32 list) (lines (suc k) n (drop 32 list)), free-piece newline (piece k (take 32 list)) 10 (lines (suc k) n (drop 32 list)) (piece-ends k (take 32 list)) refl, piece-line k (take 32 list), line-back (take 32 list) here (bytes-take 32 list h), lines-back n (drop 32 list) room (suc j) (suc k) later (bytes-drop 32 list h) (le-of-suc-le-suc m), take-append-drop)
+    rw (
+      numbered-piece k (take 32 list) (lines (suc k) n (drop 32 list)),
+      free-piece newline (piece k (take 32 list)) 10 (lines (suc k) n (drop 32 list))
+          (piece-ends k (take 32 list)) refl,
+      piece-line k (take 32 list),
+      line-back (take 32 list) here (bytes-take 32 list h),
+      lines-back n
+          (drop 32 list) room (suc j) (suc k) later (bytes-drop 32 list h) (le-of-suc-le-suc m),
+      take-append-drop,
+    )
   where
     here : length (take 32 list) ≡ 32
     here = length-take-le 32 list (omega arith)
@@ -345,7 +367,8 @@ lines-back (suc n) list (suc room) j k l h m =
 whole-steps-of : (n : ℕ) → list-refusal n 0 256 ≡ 0 → (n ≡ 32 * (n / 32)) × (n / 32 ≤ 256)
 whole-steps-of n e = by (eqb (n % 32) 0) (eqb-true (n % 32) 0) (leb n 8192) (leb-true n 8192) e
   where
-    by : (p : Bool) → (p ≡ true → n % 32 ≡ 0) → (q : Bool) → (q ≡ true → n ≤ 8192) → unless true 17 (unless (cond p q false) 1 (unless (leb 0 (n / 32)) 19 0)) ≡ 0
+    by : (p : Bool) → (p ≡ true → n % 32 ≡ 0) → (q : Bool) → (q ≡ true → n ≤ 8192)
+        → unless true 17 (unless (cond p q false) 1 (unless (leb 0 (n / 32)) 19 0)) ≡ 0
         → (n ≡ 32 * (n / 32)) × (n / 32 ≤ 256)
     by true g true h f = let a = g refl in let b = h refl in (omega arith, omega arith)
     by true g false h f = let z : _≡_ {A = ℕ} 1 0 = f in absurd (omega arith)

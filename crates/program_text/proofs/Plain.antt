@@ -78,15 +78,32 @@ some-digits b h = by (decimal b) (decimal-back b h)
 register-taken : (p b : ℕ) (cs s : List ℕ) → b ≤ 15 → ends cs ≡ true → take-field register p (going (field register p b ++ cs) s) ≡ going cs (set s p b)
 unfolding take-field field codes find onward before
 register-taken p b cs s h e =
-    rw (after-of (decimal b) cs (decimal-solid b) e, word-of (decimal b) cs (decimal-solid b) e, decimal-back b (omega arith), le-leb 0 b (omega arith), le-leb b 15 h)
+    rw (
+      after-of (decimal b) cs (decimal-solid b) e,
+      word-of (decimal b) cs (decimal-solid b) e,
+      decimal-back b (omega arith),
+      le-leb 0 b
+          (omega arith),
+      le-leb b 15 h,
+    )
 
 lane-taken : (p b : ℕ) (cs s : List ℕ) → b < 256 → ends cs ≡ true → take-field lane p (going (field lane p b ++ cs) s) ≡ going cs (set s p b)
 unfolding take-field field codes find onward
 lane-taken p b cs s h e =
-    rw (skip-solid (decimal b) cs (decimal-solid b) (some-digits b h), after-of (decimal b) cs (decimal-solid b) e, word-of (decimal b) cs (decimal-solid b) e, decimal-back b h, le-leb 0 b (omega arith), le-leb b 255 (omega arith))
+    rw (
+      skip-solid (decimal b) cs (decimal-solid b) (some-digits b h),
+      after-of (decimal b) cs (decimal-solid b) e,
+      word-of (decimal b) cs
+          (decimal-solid b) e,
+      decimal-back b h,
+      le-leb 0 b (omega arith),
+      le-leb b 255 (omega arith),
+    )
 
 -- so many of them
-module _ (f : Field) (Ok : ℕ → Type 0) (E : List ℕ → Type 0) (one : (p b : ℕ) (cs s : List ℕ) → Ok b → E cs → take-field f p (going (field f p b ++ cs) s) ≡ going cs (set s p b)) (next : (p b : ℕ) (cs : List ℕ) → E cs → E (field f p b ++ cs)) where
+module _ (f : Field) (Ok : ℕ → Type 0) (E : List ℕ → Type 0)
+    (one : (p b : ℕ) (cs s : List ℕ) → Ok b → E cs → take-field f p (going (field f p b ++ cs) s) ≡ going cs (set s p b))
+    (next : (p b : ℕ) (cs : List ℕ) → E cs → E (field f p b ++ cs)) where
   ends-fields : (n p : ℕ) (s cs : List ℕ) → E cs → E (fields f n p s ++ cs)
   unfolding fields
   ends-fields zero p s cs e = e
@@ -98,7 +115,11 @@ module _ (f : Field) (Ok : ℕ → Type 0) (E : List ℕ → Type 0) (one : (p b
   unfolding take-fields fields copied
   fields-taken zero p s cs t ok e = refl
   fields-taken (suc n) p s cs t ok e =
-      rw (append-assoc (field f p (getD s p 0)) (fields f n (suc p) s) cs, one p (getD s p 0) (fields f n (suc p) s ++ cs) t (rw (add-zero p) at (ok 0 (omega arith))) (ends-fields n (suc p) s cs e))
+      rw (
+        append-assoc (field f p (getD s p 0)) (fields f n (suc p) s) cs,
+        one p (getD s p 0) (fields f n (suc p) s ++ cs) t
+            (rw (add-zero p) at (ok 0 (omega arith))) (ends-fields n (suc p) s cs e),
+      )
       (fields-taken n (suc p) s cs (set t p (getD s p 0)) (λ i h. rw (suc-add p i, ← add-suc p i) (ok (suc i) (omega arith))) e)
 
 ends-mark : (m : ℕ) → ends (mark m) ≡ true
@@ -157,7 +178,16 @@ solid-first s e h = skip-solid (name (operation s)) _ e h
 mark-taken : (m : ℕ) (t : List ℕ) → m < 256 → (m ≡ 0 → ⊥) → take-field a-mark 7 (going (decimal m) t) ≡ going [] (set t 7 m)
 unfolding take-field find
 mark-taken m t h k =
-    rw (← append-nil (decimal m), skip-solid (decimal m) [] (decimal-solid m) (some-digits m h), after-of (decimal m) [] (decimal-solid m) refl, word-of (decimal m) [] (decimal-solid m) refl, decimal-back m h, le-leb 1 m (omega (arith, k)), le-leb m 255 (omega arith))
+    rw (
+      ← append-nil (decimal m),
+      skip-solid (decimal m) [] (decimal-solid m) (some-digits m h),
+      after-of (decimal m) [] (decimal-solid m) refl,
+      word-of
+          (decimal m) [] (decimal-solid m) refl,
+      decimal-back m h,
+      le-leb 1 m (omega (arith, k)),
+      le-leb m 255 (omega arith),
+    )
 
 mark-of : (t w : List ℕ) → 0 < length w → take-mark t w ≡ take-field a-mark 7 (going w t)
 mark-of t [] h = absurd (not-suc-le-zero h)
@@ -223,28 +253,40 @@ module _ (s : List ℕ) (o : Ordinary s) where
   form-taken : (t : List ℕ) → take-form f (going (of-form f s ++ mark m) t) ≡ going (mark m) (fields-of f s t)
   unfolding take-form of-form
   form-taken t =
-      rw (append-assoc (fields register (f .registers) (f .first) s) (fields lane (f .lanes) 6 s ++ fields byte (f .bytes) 16 s) (mark m), append-assoc (fields lane (f .lanes) 6 s) (fields byte (f .bytes) 16 s) (mark m), registers-taken, lanes-taken)
+      rw (
+        append-assoc (fields register (f .registers) (f .first) s) (fields lane (f .lanes) 6 s ++ fields byte (f .bytes) 16 s) (mark m),
+        append-assoc
+            (fields lane (f .lanes) 6 s) (fields byte (f .bytes) 16 s) (mark m),
+        registers-taken,
+        lanes-taken,
+      )
       bytes-taken
     where
       after-lanes : List ℕ
       after-lanes = fields byte (f .bytes) 16 s ++ mark m
 
-      registers-taken : take-fields register (f .registers) (f .first) (going (fields register (f .registers) (f .first) s ++ (fields lane (f .lanes) 6 s ++ (fields byte (f .bytes) 16 s ++ mark m))) t)
+      registers-taken : take-fields register (f .registers) (f .first)
+          (going (fields register (f .registers) (f .first) s ++ (fields lane (f .lanes) 6 s ++ (fields byte (f .bytes) 16 s ++ mark m))) t)
           ≡ going (fields lane (f .lanes) 6 s ++ (fields byte (f .bytes) 16 s ++ mark m)) (copied (f .registers) (f .first) s t)
       registers-taken =
-          fields-taken register (λ b. b ≤ 15) (λ cs. ends cs ≡ true) register-taken (λ p b cs e. starts-register p b cs) (f .registers) (f .first) s _ t (o .legal)
-          (ends-fields lane (λ b. b < 256) (λ cs. ends cs ≡ true) lane-taken (λ p b cs e. starts-lane p b cs) (f .lanes) 6 s _ (ends-bytes (f .bytes) s (mark m) (ends-mark m)))
+          fields-taken register (λ b. b ≤ 15) (λ cs. ends cs ≡ true) register-taken (λ p b cs e. starts-register p b cs) (f .registers) (f .first) s _ t
+          (o .legal)
+          (ends-fields lane (λ b. b < 256) (λ cs. ends cs ≡ true) lane-taken (λ p b cs e. starts-lane p b cs) (f .lanes) 6 s _
+          (ends-bytes (f .bytes) s (mark m) (ends-mark m)))
 
-      lanes-taken : take-fields lane (f .lanes) 6 (going (fields lane (f .lanes) 6 s ++ (fields byte (f .bytes) 16 s ++ mark m)) (copied (f .registers) (f .first) s t))
+      lanes-taken : take-fields lane (f .lanes) 6
+          (going (fields lane (f .lanes) 6 s ++ (fields byte (f .bytes) 16 s ++ mark m)) (copied (f .registers) (f .first) s t))
           ≡ going (fields byte (f .bytes) 16 s ++ mark m) (copied (f .lanes) 6 s (copied (f .registers) (f .first) s t))
       lanes-taken =
           fields-taken lane (λ b. b < 256) (λ cs. ends cs ≡ true) lane-taken (λ p b cs e. starts-lane p b cs) (f .lanes) 6 s _ _ (λ i h. o .bytes (6 + i))
           (ends-bytes (f .bytes) s (mark m) (ends-mark m))
 
-      bytes-taken : take-fields byte (f .bytes) 16 (going (fields byte (f .bytes) 16 s ++ mark m) (copied (f .lanes) 6 s (copied (f .registers) (f .first) s t)))
+      bytes-taken : take-fields byte (f .bytes) 16
+          (going (fields byte (f .bytes) 16 s ++ mark m) (copied (f .lanes) 6 s (copied (f .registers) (f .first) s t)))
           ≡ going (mark m) (fields-of f s t)
       bytes-taken =
-          fields-taken byte (λ b. b < 256) (λ cs. Unit) (λ p b cs t h e. byte-taken p b cs t h) (λ p b cs e. tt) (f .bytes) 16 s (mark m) _ (λ i h. o .bytes (16 + i)) tt
+          fields-taken byte (λ b. b < 256) (λ cs. Unit) (λ p b cs t h e. byte-taken p b cs t h) (λ p b cs e. tt) (f .bytes) 16 s (mark m) _
+          (λ i h. o .bytes (16 + i)) tt
 
   named-plain : named n (of-form f s ++ mark m) ≡ step s
   unfolding named used
@@ -258,15 +300,26 @@ module _ (s : List ℕ) (o : Ordinary s) where
   ends-form : ends (of-form f s ++ mark m) ≡ true
   unfolding of-form
   ends-form =
-      rw (append-assoc (fields register (f .registers) (f .first) s) (fields lane (f .lanes) 6 s ++ fields byte (f .bytes) 16 s) (mark m), append-assoc (fields lane (f .lanes) 6 s) (fields byte (f .bytes) 16 s) (mark m))
+      rw (
+        append-assoc (fields register (f .registers) (f .first) s) (fields lane (f .lanes) 6 s ++ fields byte (f .bytes) 16 s) (mark m),
+        append-assoc
+            (fields lane (f .lanes) 6 s) (fields byte (f .bytes) 16 s) (mark m),
+      )
       (ends-fields register (λ b. b ≤ 15) (λ cs. ends cs ≡ true) register-taken (λ p b cs e. starts-register p b cs) (f .registers) (f .first) s _
-      (ends-fields lane (λ b. b < 256) (λ cs. ends cs ≡ true) lane-taken (λ p b cs e. starts-lane p b cs) (f .lanes) 6 s _ (ends-bytes (f .bytes) s (mark m) (ends-mark m))))
+      (ends-fields lane (λ b. b < 256) (λ cs. ends cs ≡ true) lane-taken (λ p b cs e. starts-lane p b cs) (f .lanes) 6 s _
+      (ends-bytes (f .bytes) s (mark m) (ends-mark m))))
 
   stated-plain : stated (plain s) ≡ step s
   unfolding plain
   stated-plain =
       by-word (name n ++ (of-form f s ++ mark m)) (some-name (name n) (o .has-name))
-      ∙ rw (word-of (name n) _ name-solid ends-form, after-of (name n) _ name-solid ends-form, name-not-step n (o .has-name), number-of-name n (o .has-name)) named-plain
+      ∙ rw (
+        word-of (name n) _ name-solid ends-form,
+        after-of (name n) _ name-solid ends-form,
+        name-not-step n (o .has-name),
+        number-of-name n
+            (o .has-name),
+      ) named-plain
     where
       some-name : (w : List ℕ) → 0 < length w → 0 < length (w ++ (of-form f s ++ mark m))
       some-name [] h = absurd (not-suc-le-zero h)

@@ -206,7 +206,8 @@ byte-tidy (a ∷ b ∷ r) = by (blank a) refl (blank b) refl
     by : (p : Bool) → blank a ≡ p → (q : Bool) → blank b ≡ q → as-byte (tidy (a ∷ b ∷ r)) ≡ then-tidy (as-byte (a ∷ b ∷ r))
     by true e q f = ap as-byte (tidy-blank a (b ∷ r) e) ∙ byte-spaced (tidy (b ∷ r)) ∙ rw (no-digit a e)
     by false e true f =
-        ap as-byte (tidy-solid a (b ∷ r) e ∙ ap (λ (x : List ℕ). a ∷ x) (tidy-blank b r f)) ∙ half-spaced a (tidy r) ∙ rw (no-digit b f) (sym (either (ltb (digit a) 16)))
+        ap as-byte (tidy-solid a (b ∷ r) e ∙ ap (λ (x : List ℕ). a ∷ x) (tidy-blank b r f)) ∙ half-spaced a (tidy r)
+        ∙ rw (no-digit b f) (sym (either (ltb (digit a) 16)))
     by false e false f =
         ap as-byte (tidy-solid a (b ∷ r) e ∙ ap (λ (x : List ℕ). a ∷ x) (tidy-solid b r f))
         ∙ both (ltb (digit a) 16) (ltb (digit b) 16) (16 * digit a + digit b)
@@ -282,7 +283,8 @@ apart-tidy x w (c ∷ cs) = by (blank c) refl (tidy cs) refl
         → (apart (tidy (c ∷ cs)) && same (word (skip (c ∷ cs))) (x ∷ w)) ≡ (blank c && same (word (skip (c ∷ cs))) (x ∷ w))
     by false e ds f = rw (tidy-solid c cs e)
     by true e [] f =
-        let none : word (skip (c ∷ cs)) ≡ [] = sym (word-skip-tidy (c ∷ cs)) ∙ ap (λ (t : List ℕ). word (skip t)) (tidy-blank c cs e ∙ ap spaced f) ∙ nothing-there in
+        let none : word (skip (c ∷ cs)) ≡ [] = sym (word-skip-tidy (c ∷ cs)) ∙ ap (λ (t : List ℕ). word (skip t)) (tidy-blank c cs e ∙ ap spaced f)
+        ∙ nothing-there in
         rw none (and-false (apart (tidy (c ∷ cs))) false refl ∙ sym (and-false (blank c) false refl))
     by true e (d ∷ ds) f = rw (tidy-blank c cs e, f, apart-spaced d ds, e)
 
@@ -308,7 +310,8 @@ end-tidy (going cs s) = rw (skip-tidy cs) (by-skip (λ t. nothing-more s (tidy t
 
 named-tidy : (n : ℕ) (cs : List ℕ) → named n (tidy cs) ≡ named n cs
 unfolding named tidied
-named-tidy n cs = ap (λ (l : Line). cond (ltb n 276) l (refused 1)) (ap (λ (x : State). end-line (take-packed x)) formed ∙ ap end-line (packed-tidy read) ∙ end-tidy (take-packed read))
+named-tidy n cs = ap (λ (l : Line). cond (ltb n 276) l (refused 1))
+    (ap (λ (x : State). end-line (take-packed x)) formed ∙ ap end-line (packed-tidy read) ∙ end-tidy (take-packed read))
   where
     read : State
     read = take-form (form n) (going cs (of-operation n))

@@ -119,12 +119,14 @@ four r e =
 
 module _ (r : List ℕ) (long : length r ≡ 64) (a b c d : ℕ) (p q s t : ℕ) (ha : a < 2 ^ 64) (hb : b < 2 ^ 64) (hc : c < 2 ^ 64) (hd : d < 2 ^ 64)
     (hp : p < 2 ^ 64) (hq : q < 2 ^ 64) (hs : s < 2 ^ 64) (ht : t < 2 ^ 64)
-    (ea : digits 8 8 a ≡ take 8 (drop 32 r)) (eb : digits 8 8 b ≡ take 8 (drop 40 r)) (ec : digits 8 8 c ≡ take 8 (drop 48 r)) (ed : digits 8 8 d ≡ take 8 (drop 56 r)) where
+    (ea : digits 8 8 a ≡ take 8 (drop 32 r)) (eb : digits 8 8 b ≡ take 8 (drop 40 r)) (ec : digits 8 8 c ≡ take 8 (drop 48 r))
+    (ed : digits 8 8 d ≡ take 8 (drop 56 r)) where
   -- the words tell whether the bytes are the same
   pub same-words : same (drop 32 r) (digits 8 8 p ++ (digits 8 8 q ++ (digits 8 8 s ++ digits 8 8 t))) ≡ (eqb a p && eqb b q && eqb c s && eqb d t)
   same-words =
       ap (λ (l : List ℕ). same l (digits 8 8 p ++ (digits 8 8 q ++ (digits 8 8 s ++ digits 8 8 t)))) (four r long)
-      ∙ rw (← ea, ← eb, ← ec, ← ed) (same-append (digits 8 8 a) (digits 8 8 p) (digits 8 8 b ++ (digits 8 8 c ++ digits 8 8 d)) (digits 8 8 q ++ (digits 8 8 s ++ digits 8 8 t)) (refl)
+      ∙ rw (← ea, ← eb, ← ec, ← ed) (same-append (digits 8 8 a) (digits 8 8 p) (digits 8 8 b ++ (digits 8 8 c ++ digits 8 8 d))
+      (digits 8 8 q ++ (digits 8 8 s ++ digits 8 8 t)) (refl)
       ∙ rw (
         same-word a p ha hp,
         same-append (digits 8 8 b) (digits 8 8 q) (digits 8 8 c ++ digits 8 8 d) (digits 8 8 s ++ digits 8 8 t) refl,

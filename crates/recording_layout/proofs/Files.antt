@@ -49,7 +49,8 @@ passed false n later e = absurd (let z : _≡_ {A = ℕ} (suc n) 0 = e in omega 
 
 laid-count : (n k : ℕ) (b : List ℕ) → block-laid n k b ≡ true → count-laid n k (count b) ≡ true
 unfolding block-laid
-laid-count n k b e = of (eqb (getD b 0 0 + 256 * getD b 1 0) k) (count-laid n k (count b)) (eqb (getD b 3 0) 0) (all-zero (part (4 + 64 * count b) 510 b)) (each-below (count b) (record-at-laid n k b)) e
+laid-count n k b e = of (eqb (getD b 0 0 + 256 * getD b 1 0) k) (count-laid n k (count b)) (eqb (getD b 3 0) 0) (all-zero (part (4 + 64 * count b) 510 b))
+    (each-below (count b) (record-at-laid n k b)) e
   where
     of : (t u v w x : Bool) → (t && u && v && w && x) ≡ true → u ≡ true
     of t u v w x f = both t u (both (t && u) v (both (t && u && v) w (both (t && u && v && w) x f .0) .0) .0) .1
@@ -66,7 +67,9 @@ counted file n e =
     let l = w .least in
     let k = length file / 512 - 1 in
     let laid = laid-count (blocks file) k (block file k) (at (blocks file) (laid-block file) (c .0) k (omega arith)) in
-    let most = leb-true (7 * k + count (block file k)) 256 (both (leb (7 * k + count (block file k)) 256) (cond (eqb (k + 1) (blocks file)) (leb 1 (count (block file k)) && leb (count (block file k)) 7) (eqb (count (block file k)) 7)) laid .0) in
+    let most = leb-true (7 * k + count (block file k)) 256
+    (both (leb (7 * k + count (block file k)) 256)
+    (cond (eqb (k + 1) (blocks file)) (leb 1 (count (block file k)) && leb (count (block file k)) 7) (eqb (count (block file k)) 7)) laid .0) in
     let few = seven (blocks file) k (count (block file k)) laid in
     let q : n ≡ 7 * k + count (block file k) = r .counts in
     (omega arith, omega arith)

@@ -66,7 +66,8 @@ module _ (s : List ℕ) (block : Block s) where
   pub zero-right : check s ≡ 0 → right s ≡ true
   unfolding right check
   zero-right e =
-      rw (eq-eqb _ _ long) (eq-eqb _ _ (⊕-same found given (times-kernel 16 (found ⊕ given) (⊕-lt 16 found given (run-lt (spread (take 510 s)) 65535 (lit< tt)) small) (sym whole ∙ e))))
+      rw (eq-eqb _ _ long) (eq-eqb _ _ (⊕-same found given
+      (times-kernel 16 (found ⊕ given) (⊕-lt 16 found given (run-lt (spread (take 510 s)) 65535 (lit< tt)) small) (sym whole ∙ e))))
     where
       found : ℕ
       found = run 65535 (spread (take 510 s))
@@ -198,7 +199,8 @@ module _ (s : List ℕ) (block : Block s) where
     pub turns : k < 4096 → k ≡ number-of (mended s)
     unfolding mended
     turns h =
-        let b : bit-from 4096 0 s ≡ k = reaching 4096 0 k (omega arith) (omega arith) (right-flip s block k h (p .found h ∙ e)) (λ i l. other q k i e p h (omega arith) (omega arith)) in
+        let b : bit-from 4096 0 s ≡ k = reaching 4096 0 k (omega arith) (omega arith) (right-flip s block k h (p .found h ∙ e))
+        (λ i l. other q k i e p h (omega arith) (omega arith)) in
         rw (wrong, b, lt-ltb k 4096 h)
 
     pub fails : 4096 ≤ k → 4097 ≡ number-of (mended s)

@@ -68,7 +68,8 @@ module _ (file : List ℕ) where
   blocks-apart zero m k = ap₂ (λ (i j : ℕ). blocks-from i j file) (zero-add m) (sym (add-zero k))
   blocks-apart (suc n) m k =
       ap (λ (i : ℕ). blocks-from i k file) (suc-add n m)
-      ∙ ap (λ (t : List ℕ). block-out file k ++ t) (blocks-apart n m (k + 1) ∙ ap (λ (i : ℕ). blocks-from n (k + 1) file ++ blocks-from m i file) (let e : k + 1 + n ≡ k + suc n = omega arith in e))
+      ∙ ap (λ (t : List ℕ). block-out file k ++ t)
+      (blocks-apart n m (k + 1) ∙ ap (λ (i : ℕ). blocks-from n (k + 1) file ++ blocks-from m i file) (let e : k + 1 + n ≡ k + suc n = omega arith in e))
       ∙ sym (append-assoc (block-out file k) (blocks-from n (k + 1) file) (blocks-from m (k + suc n) file))
 
   blocks-more : (n k : ℕ) → blocks-from (n + 1) k file ≡ blocks-from n k file ++ block-out file (k + n)
@@ -117,7 +118,8 @@ module _ (file : List ℕ) where
       ap (λ (i : ℕ). blocks-from i 0 file) (let e : n ≡ k + suc (n - (k + 1)) = omega arith in e)
       ∙ blocks-apart k (suc (n - (k + 1))) 0 ∙ ap (λ (i : ℕ). before ++ blocks-from (suc (n - (k + 1))) i file) (zero-add k) in
       let split-all : blocks-from n 0 file ++ rest ≡ before ++ (block-out file k ++ (after ++ rest)) =
-      ap (λ (t : List ℕ). t ++ rest) split ∙ append-assoc before (block-out file k ++ after) rest ∙ ap (λ (t : List ℕ). before ++ t) (append-assoc (block-out file k) after rest) in
+      ap (λ (t : List ℕ). t ++ rest) split ∙ append-assoc before (block-out file k ++ after) rest
+      ∙ ap (λ (t : List ℕ). before ++ t) (append-assoc (block-out file k) after rest) in
       ap₂ (λ (i : ℕ) (t : List ℕ). take i (drop (512 * k) t)) (let e : 512 * k + 512 - 512 * k ≡ 512 = omega arith in e) split-all
       ∙ ap (take 512) (drop-at before (block-out file k ++ (after ++ rest)) (512 * k) (length-blocks k 0 (let z = zero-add k in omega arith)))
       ∙ take-at (block-out file k) (after ++ rest) 512 (length-out k (omega arith))
@@ -163,7 +165,8 @@ module _ (file : List ℕ) where
       ∙ set-at (bits-from k 0 file) 4096 (replicate (37 - (k + 1)) 4096) r k (length-bits k 0)
       ∙ sym (append-snoc (bits-from k 0 file) r (replicate (37 - (k + 1)) 4096))
       ∙ ap (λ (t : List ℕ). t ++ replicate (37 - (k + 1)) 4096)
-      (ap (λ (x : ℕ). bits-from k 0 file ++ (x ∷ [])) (sym f ∙ ap (bit-out file) (sym (zero-add k))) ∙ sym (bits-more k 0) ∙ ap (λ (i : ℕ). bits-from i 0 file) (sym (add-one k)))
+      (ap (λ (x : ℕ). bits-from k 0 file ++ (x ∷ [])) (sym f ∙ ap (bit-out file) (sym (zero-add k))) ∙ sym (bits-more k 0)
+      ∙ ap (λ (i : ℕ). bits-from i 0 file) (sym (add-one k)))
 
   -- ---- how many blocks are written
 
@@ -185,8 +188,10 @@ module _ (file : List ℕ) where
   none-left n k h = let left : n - k ≡ 0 = omega arith in rw left (add-zero k)
 
   -- the answer where the walk ends
-  pub ended : (k : ℕ) (stopped : Bool) (bits out out₀ : List ℕ) → k ≡ written (blocks file) 0 file → stopped ≡ ltb k (blocks file) → bits ≡ bits-from k 0 file ++ replicate (37 - k) 4096
-      → out ≡ blocks-from k 0 file ++ drop (512 * k) out₀ → _≡_ {A = Mending × List ℕ} (record { refusal = 0; blocks = k; stopped = stopped; bits = bits }, out) (done file out₀)
+  pub ended : (k : ℕ) (stopped : Bool) (bits out out₀ : List ℕ) → k ≡ written (blocks file) 0 file → stopped ≡ ltb k (blocks file) → bits
+      ≡ bits-from k 0 file ++ replicate (37 - k) 4096
+      → out ≡ blocks-from k 0 file ++ drop (512 * k) out₀
+      → _≡_ {A = Mending × List ℕ} (record { refusal = 0; blocks = k; stopped = stopped; bits = bits }, out) (done file out₀)
   unfolding done
   ended k stopped bits out out₀ e s b o = rw (s, b, o, ← e)
 
@@ -206,7 +211,8 @@ unfolding mending done
 in-room file out = of (whole-blocks (length file)) (leb (length file) (length out)) refl
   where
     of : (t u : Bool) → leb (length file) (length out) ≡ u
-        → 512 * (cond {A = Mending × List ℕ} t (cond u (written-over (written (blocks file) 0 file) file out) (refused 16, out)) (refused 13, out)) .0 .blocks ≤ length out
+        → 512 * (cond {A = Mending × List ℕ} t (cond u (written-over (written (blocks file) 0 file) file out) (refused 16, out))
+        (refused 13, out)) .0 .blocks ≤ length out
     of true true e = let l = leb-true (length file) (length out) e in let h = written-le (blocks file) 0 file in omega arith
     of true false e = omega arith
     of false u e = omega arith
@@ -221,7 +227,8 @@ module _ (file : List ℕ) (n : ℕ) where
       less : k < n
       less = omega (arith, written-le n 0 file)
 
-      of : (t : Bool) → is-mended (mended (block file k)) ≡ t → written n 0 file ≡ k + written (n - k) k file → written n 0 file ≡ suc k + written (n - suc k) (suc k) file
+      of : (t : Bool) → is-mended (mended (block file k)) ≡ t → written n 0 file ≡ k + written (n - k) k file → written n 0 file
+          ≡ suc k + written (n - suc k) (suc k) file
       of true e w = w ∙ one-more file n k less e ∙ ap (λ (i : ℕ). i + written (n - i) i file) (add-one k)
       of false e w = absurd (omega (arith, no-more file n k less e))
 

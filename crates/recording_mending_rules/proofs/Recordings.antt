@@ -57,10 +57,12 @@ module _ (file out : List ℕ) (k : ℕ) (long : length (block file k) ≡ 512) 
   room = omega (arith, written-le (blocks file) 0 file)
 
   -- a block that is kept or mended comes out so
-  comes-out : (m : Mended) → mended (block file k) ≡ m → is-mended m ≡ true → Reached k (mending file out) → ComesOut k (block-of (block file k) m) (bit-of m) (mending file out)
+  comes-out : (m : Mended) → mended (block file k) ≡ m → is-mended m ≡ true → Reached k (mending file out)
+      → ComesOut k (block-of (block file k) m) (bit-of m) (mending file out)
   unfolding done
   comes-out m e can =
-      by-refusal file out (λ (made : Mending × List ℕ). Reached k made → ComesOut k (block-of (block file k) m) (bit-of m) made) through (λ n r. absurd (omega arith))
+      by-refusal file out (λ (made : Mending × List ℕ). Reached k made → ComesOut k (block-of (block file k) m) (bit-of m) made) through
+      (λ n r. absurd (omega arith))
     where
       through : Reached k (done file out) → ComesOut k (block-of (block file k) m) (bit-of m) (done file out)
       through r =
@@ -87,7 +89,8 @@ module _ (file out : List ℕ) (k : ℕ) (long : length (block file k) ≡ 512) 
           record {
             not-written = few;
             as-it-was = behind file (written (blocks file) 0 file) k out few room;
-            named = λ r. let last = stops file (blocks file) k in-file can-not (r .before) in (last, ap (λ (n : ℕ). ltb n (blocks file)) last ∙ lt-ltb k (blocks file) in-file);
+            named = λ r. let last = stops file (blocks file) k in-file can-not (r .before) in
+                (last, ap (λ (n : ℕ). ltb n (blocks file)) last ∙ lt-ltb k (blocks file) in-file);
           }
 
 right-long : (b : List ℕ) → right b ≡ true → length b ≡ 512
@@ -105,7 +108,8 @@ module _ (file out b : List ℕ) (k : ℕ) (sent : Sent b) where
   pub one-flipped : (j : ℕ) → j < 4096 → block file k ≡ flipped j b → Reached k (mending file out) → ComesOut k b j (mending file out)
   one-flipped j h e r =
       subst (λ (s : List ℕ). ComesOut k s j (mending file out)) (ap (flipped j) e ∙ flipped-twice b (sent .whole) j h)
-      (comes-out file out k (ap length e ∙ still-block b (sent .whole) j h .long) (put-back j) (ap mended e ∙ one-bit b (sent .whole) (sent .checked) j h) refl r)
+      (comes-out file out k (ap length e ∙ still-block b (sent .whole) j h .long) (put-back j)
+      (ap mended e ∙ one-bit b (sent .whole) (sent .checked) j h) refl r)
 
   -- "one with two flipped is never altered", reached or not
   pub two-flipped : (i j : ℕ) → i < 4096 → j < 4096 → (i ≡ j → ⊥) → block file k ≡ flipped j (flipped i b) → Unaltered k out (mending file out)

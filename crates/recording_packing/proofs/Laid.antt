@@ -81,7 +81,8 @@ module _ (N : ℕ) (rs : List ℕ) (lawful : Lawful N rs) where
     numbered : getD b 0 0 + 256 * getD b 1 0 ≡ k
     unfolding b
     numbered =
-        ap₂ (λ (x y : ℕ). x + 256 * y) (ap (λ (t : List ℕ). getD t 0 0) (opened k (inside k) (short k))) (ap (λ (t : List ℕ). getD t 1 0) (opened k (inside k) (short k)))
+        ap₂ (λ (x y : ℕ). x + 256 * y) (ap (λ (t : List ℕ). getD t 0 0) (opened k (inside k) (short k)))
+        (ap (λ (t : List ℕ). getD t 1 0) (opened k (inside k) (short k)))
         ∙ (let c = ceiling in let e : k % 256 + 256 * (k / 256 % 256) ≡ k = omega arith in e)
 
     counted : count b ≡ held k
@@ -157,7 +158,8 @@ module _ (N : ℕ) (rs : List ℕ) (lawful : Lawful N rs) where
   count-records =
       let c = ceiling in
       let h : n - 1 < n = omega arith in
-      rw (count-blocks, is-block (n - 1) h) (ap (λ (x : ℕ). 7 * (n - 1) + x) (counted (n - 1) h) ∙ (let e : 7 * (n - 1) + min 7 (N - 7 * (n - 1)) ≡ N = omega arith in e))
+      rw (count-blocks, is-block (n - 1) h) (ap (λ (x : ℕ). 7 * (n - 1) + x) (counted (n - 1) h)
+      ∙ (let e : 7 * (n - 1) + min 7 (N - 7 * (n - 1)) ≡ N = omega arith in e))
 
   pub judged-packed : judged (packed rs) ≡ recording N
   unfolding file

@@ -36,7 +36,8 @@ module _ (k : ℕ) (ps : List ℕ) (at-most : length ps ≤ 448) where
       ap (λ (t : List ℕ). getD t 511 0) (sym (append-snoc b (check b / 256) (check b % 256 ∷ [])))
       ∙ getD-at (b ++ (check b / 256 ∷ [])) (check b % 256) [] 0 511 (length-append b (check b / 256 ∷ []) ∙ ap (λ (n : ℕ). n + 1) l) in
       let long : length (sealed b) ≡ 512 = length-append b (check b / 256 ∷ check b % 256 ∷ []) ∙ ap (λ (n : ℕ). n + 2) l in
-      rw (eq-eqb _ _ long) (eq-eqb _ _ (ap check front ∙ (let e : check b ≡ check b / 256 * 256 + check b % 256 = omega arith in e) ∙ sym (ap₂ (λ (x y : ℕ). x * 256 + y) first second)))
+      rw (eq-eqb _ _ long) (eq-eqb _ _ (ap check front ∙ (let e : check b ≡ check b / 256 * 256 + check b % 256 = omega arith in e)
+      ∙ sym (ap₂ (λ (x y : ℕ). x * 256 + y) first second)))
 
   -- behind the four bytes that begin it: the records, the zeros and the check
   abbrev tail : List ℕ
@@ -44,7 +45,8 @@ module _ (k : ℕ) (ps : List ℕ) (at-most : length ps ≤ 448) where
 
   pub opened : packed-block k ps ≡ k % 256 ∷ k / 256 % 256 ∷ length ps / 64 ∷ 0 ∷ (ps ++ tail)
   unfolding packed-block
-  opened = ap (λ (t : List ℕ). k % 256 ∷ k / 256 % 256 ∷ length ps / 64 ∷ 0 ∷ t) (append-assoc ps (replicate (506 - length ps) 0) (check (body k ps) / 256 ∷ check (body k ps) % 256 ∷ []))
+  opened = ap (λ (t : List ℕ). k % 256 ∷ k / 256 % 256 ∷ length ps / 64 ∷ 0 ∷ t)
+      (append-assoc ps (replicate (506 - length ps) 0) (check (body k ps) / 256 ∷ check (body k ps) % 256 ∷ []))
 
   behind : (x : ℕ) → drop (4 + x) (packed-block k ps) ≡ drop x (ps ++ tail)
   behind x = ap (drop (4 + x)) opened ∙ past-four (k % 256) (k / 256 % 256) (length ps / 64) 0 x (ps ++ tail)
@@ -54,7 +56,8 @@ module _ (k : ℕ) (ps : List ℕ) (at-most : length ps ≤ 448) where
       let n : 510 - (4 + 64 * c) ≡ 506 - length ps = omega arith in
       ap all-zero
       (ap₂ take n (behind (64 * c) ∙ drop-at ps tail (64 * c) (sym e))
-      ∙ take-at (replicate (506 - length ps) 0) (check (body k ps) / 256 ∷ check (body k ps) % 256 ∷ []) (506 - length ps) (length-replicate (506 - length ps) 0))
+      ∙ take-at (replicate (506 - length ps) 0) (check (body k ps) / 256 ∷ check (body k ps) % 256 ∷ []) (506 - length ps)
+      (length-replicate (506 - length ps) 0))
       ∙ filled (506 - length ps)
 
   pub record-packed : (i : ℕ) → 64 * i + 64 ≤ length ps → record-in (packed-block k ps) i ≡ take 64 (drop (64 * i) ps)

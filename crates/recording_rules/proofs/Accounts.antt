@@ -46,7 +46,8 @@ module _ (place : ℕ) (m after : Machine) (s : List ℕ) where
   judged e = of (eqb (refusal (profile (instruction (operation s))) (m .kind) s) 0) refl e
     where
       of : (t : Bool) → eqb (refusal (profile (instruction (operation s))) (m .kind) s) 0 ≡ t
-          → cond t (given (effect (instruction (operation s)) place m s)) (calculator.refused (refusal (profile (instruction (operation s))) (m .kind) s)) ≡ given after
+          → cond t (given (effect (instruction (operation s)) place m s)) (calculator.refused (refusal (profile (instruction (operation s))) (m .kind) s))
+          ≡ given after
           → refusal (profile (instruction (operation s))) (m .kind) s ≡ 0
       of true f g = eqb-true _ 0 f
       of false f g = let z : _≡_ {A = ℕ} 0 1 = cc in absurd (omega arith)
@@ -116,7 +117,8 @@ module _ (n at : ℕ) (file : List ℕ) (m : Machine) where
     unfolding replay-from
     replay-turn e = rw (one-left n at h, e, add-one)
 
-    pub replay-stop : (a : Answer) → compared at (record-at file at) (trace-of at m (take 32 (record-at file at))) ≡ a → (a ≡ agrees → ⊥) → replay-from (n - at) at file m ≡ a
+    pub replay-stop : (a : Answer) → compared at (record-at file at) (trace-of at m (take 32 (record-at file at))) ≡ a → (a ≡ agrees → ⊥)
+        → replay-from (n - at) at file m ≡ a
     unfolding replay-from
     replay-stop agrees e ne = absurd (ne refl)
     replay-stop (differs k) e ne = rw (one-left n at h, e)
@@ -132,17 +134,20 @@ module _ (n at : ℕ) (list front : List ℕ) (m : Machine) where
   module _ (h : at < n) where
     pub run-turn : (after : Machine) → step at m (take 32 (drop (32 * at) list)) ≡ given after
         → front ++ records-from (n - at) at (drop (32 * at) list) m
-        ≡ front ++ (take 32 (drop (32 * at) list) ++ trace-of at m (take 32 (drop (32 * at) list))) ++ records-from (n - (at + 1)) (at + 1) (drop (32 * (at + 1)) list) after
+        ≡ front ++ (take 32 (drop (32 * at) list) ++ trace-of at m (take 32 (drop (32 * at) list)))
+        ++ records-from (n - (at + 1)) (at + 1) (drop (32 * (at + 1)) list) after
     unfolding records-from
     run-turn after e =
         let d : drop 32 (drop (32 * at) list) ≡ drop (32 * (at + 1)) list =
         drop-drop 32 (32 * at) list ∙ ap (λ (i : ℕ). drop i list) (let q : 32 * at + 32 ≡ 32 * (at + 1) = omega arith in q) in
-        rw (one-left n at h, e, d, add-one) (sym (append-assoc front (take 32 (drop (32 * at) list) ++ trace-of at m (take 32 (drop (32 * at) list))) (records-from (n - suc at) (suc at) (drop (32 * suc at) list) after)))
+        rw (one-left n at h, e, d, add-one) (sym (append-assoc front (take 32 (drop (32 * at) list) ++ trace-of at m (take 32 (drop (32 * at) list)))
+        (records-from (n - suc at) (suc at) (drop (32 * suc at) list) after)))
 
     pub run-stop : (k : ℕ) → step at m (take 32 (drop (32 * at) list)) ≡ calculator.refused k
         → front ++ records-from (n - at) at (drop (32 * at) list) m ≡ front ++ (take 32 (drop (32 * at) list) ++ trace-of at m (take 32 (drop (32 * at) list)))
     unfolding records-from
-    run-stop k e = rw (one-left n at h, e) (ap (λ (t : List ℕ). front ++ t) (append-nil (take 32 (drop (32 * at) list) ++ trace-of at m (take 32 (drop (32 * at) list)))))
+    run-stop k e = rw (one-left n at h, e) (ap (λ (t : List ℕ). front ++ t)
+        (append-nil (take 32 (drop (32 * at) list) ++ trace-of at m (take 32 (drop (32 * at) list)))))
 
 length-trace-of : (place : ℕ) (m : Machine) (s : List ℕ) → length (trace-of place m s) ≡ 32
 unfolding trace-of
@@ -161,9 +166,11 @@ module _ (n at : ℕ) (list : List ℕ) (m : Machine) (h : at < n) (enough : 32 
   step-long = length-take-le 32 (drop (32 * at) list) (simp length-drop (omega arith))
 
   record-long : length (take 32 (drop (32 * at) list) ++ trace-of at m (take 32 (drop (32 * at) list))) ≡ 64
-  record-long = length-append (take 32 (drop (32 * at) list)) (trace-of at m (take 32 (drop (32 * at) list))) ∙ ap₂ _+_ step-long (length-trace-of at m (take 32 (drop (32 * at) list)))
+  record-long = length-append (take 32 (drop (32 * at) list)) (trace-of at m (take 32 (drop (32 * at) list)))
+      ∙ ap₂ _+_ step-long (length-trace-of at m (take 32 (drop (32 * at) list)))
 
-  module _ (r : ℕ) (after : Machine) (answer : cond (eqb r 0) (given after) (calculator.refused r) ≡ step at m (take (32 * at + 32 - 32 * at) (drop (32 * at) list))) where
+  module _ (r : ℕ) (after : Machine) (answer : cond (eqb r 0) (given after) (calculator.refused r)
+      ≡ step at m (take (32 * at + 32 - 32 * at) (drop (32 * at) list))) where
     here : cond (eqb r 0) (given after) (calculator.refused r) ≡ step at m (take 32 (drop (32 * at) list))
     here = answer ∙ ap (step at m) same-step
 
@@ -174,10 +181,17 @@ module _ (n at : ℕ) (list : List ℕ) (m : Machine) (h : at < n) (enough : 32 
     refused-here z = sym (rw (ne-eqb r 0 z) at here)
 
     pub count-more : r ≡ 0
-        → 64 * (at + 1) + length (records-from (n - (at + 1)) (at + 1) (drop (32 * (at + 1)) list) after) ≡ 64 * at + length (records-from (n - at) at (drop (32 * at) list) m)
+        → 64 * (at + 1) + length (records-from (n - (at + 1)) (at + 1) (drop (32 * (at + 1)) list) after)
+        ≡ 64 * at + length (records-from (n - at) at (drop (32 * at) list) m)
     count-more z =
         let rest = records-from (n - (at + 1)) (at + 1) (drop (32 * (at + 1)) list) after in
-        omega (arith, record-long, ap length (run-turn n at list [] m h after (given-here z)), length-append (take 32 (drop (32 * at) list) ++ trace-of at m (take 32 (drop (32 * at) list))) rest)
+        omega (
+          arith,
+          record-long,
+          ap length (run-turn n at list [] m h after (given-here z)),
+          length-append
+              (take 32 (drop (32 * at) list) ++ trace-of at m (take 32 (drop (32 * at) list))) rest,
+        )
 
     pub count-last : (r ≡ 0 → ⊥) → 64 * (at + 1) ≡ 64 * at + length (records-from (n - at) at (drop (32 * at) list) m)
     count-last z = omega (arith, record-long, ap length (run-stop n at list [] m h r (refused-here z)))
@@ -188,11 +202,18 @@ module _ (n at : ℕ) (list : List ℕ) (m : Machine) (h : at < n) (enough : 32 
       of : (a : calculator.Answer Machine) → step at m (take 32 (drop (32 * at) list)) ≡ a → 64 ≤ length (records-from (n - at) at (drop (32 * at) list) m)
       of (given after) e =
           let rest = records-from (n - (at + 1)) (at + 1) (drop (32 * (at + 1)) list) after in
-          omega (arith, record-long, ap length (run-turn n at list [] m h after e), length-append (take 32 (drop (32 * at) list) ++ trace-of at m (take 32 (drop (32 * at) list))) rest)
+          omega (
+            arith,
+            record-long,
+            ap length (run-turn n at list [] m h after e),
+            length-append
+                (take 32 (drop (32 * at) list) ++ trace-of at m (take 32 (drop (32 * at) list))) rest,
+          )
       of (calculator.refused k) e = omega (arith, record-long, ap length (run-stop n at list [] m h k e))
 
   -- a buffer that has room for the blocks of all records has the place of the next
-  pub has-place : (all : ℕ) → 64 * at + length (records-from (n - at) at (drop (32 * at) list) m) ≡ all → (room : ℕ) → 512 * blocks-for all ≤ room → place at + 64 ≤ room
+  pub has-place : (all : ℕ) → 64 * at + length (records-from (n - at) at (drop (32 * at) list) m) ≡ all → (room : ℕ) → 512 * blocks-for all ≤ room
+      → place at + 64 ≤ room
   has-place all e room k = omega (arith, some-left)
 
 -- the length of what is left at the end
@@ -204,7 +225,8 @@ module _ (n at : ℕ) (list out : List ℕ) (m : Machine) (h : at < n) (room : p
     (e : t ≡ trace-of at m (take (32 * at + 32 - 32 * at) (drop (32 * at) list)))
     (p : y ≡ recorded (take (place at + 64 - place at) (drop (place at) out)) (take (32 * at + 32 - 32 * at) (drop (32 * at) list)) t) where
   place-long : length (take (place at + 64 - place at) (drop (place at) out)) ≡ 64
-  place-long = length-take-le (place at + 64 - place at) (drop (place at) out) (simp length-drop (omega arith)) ∙ (let q : place at + 64 - place at ≡ 64 = omega arith in q)
+  place-long = length-take-le (place at + 64 - place at) (drop (place at) out) (simp length-drop (omega arith))
+      ∙ (let q : place at + 64 - place at ≡ 64 = omega arith in q)
 
   is-record : y ≡ take 32 (drop (32 * at) list) ++ trace-of at m (take 32 (drop (32 * at) list))
   is-record =
@@ -214,14 +236,16 @@ module _ (n at : ℕ) (list out : List ℕ) (m : Machine) (h : at < n) (room : p
   long : length y ≡ 64
   long = ap length is-record ∙ record-long n at list m h enough
 
-  front : standing (at + 1) (putMid (place at) (place at + 64 - place at) out y) ≡ standing at out ++ (take 32 (drop (32 * at) list) ++ trace-of at m (take 32 (drop (32 * at) list)))
+  front : standing (at + 1) (putMid (place at) (place at + 64 - place at) out y) ≡ standing at out
+      ++ (take 32 (drop (32 * at) list) ++ trace-of at m (take 32 (drop (32 * at) list)))
   front = one-put at out y room long ∙ ap (λ (l : List ℕ). standing at out ++ l) is-record
 
   pub as-before : (out₀ : List ℕ) → drop (512 * blocks-for (64 * at)) out ≡ drop (512 * blocks-for (64 * at)) out₀
       → drop (512 * blocks-for (64 * (at + 1))) (putMid (place at) (place at + 64 - place at) out y) ≡ drop (512 * blocks-for (64 * (at + 1))) out₀
   as-before = none-behind at out y room long
 
-  module _ (r : ℕ) (after : Machine) (answer : cond (eqb r 0) (given after) (calculator.refused r) ≡ step at m (take (32 * at + 32 - 32 * at) (drop (32 * at) list))) where
+  module _ (r : ℕ) (after : Machine) (answer : cond (eqb r 0) (given after) (calculator.refused r)
+      ≡ step at m (take (32 * at + 32 - 32 * at) (drop (32 * at) list))) where
     pub one-more : r ≡ 0
         → standing (at + 1) (putMid (place at) (place at + 64 - place at) out y) ++ records-from (n - (at + 1)) (at + 1) (drop (32 * (at + 1)) list) after
         ≡ standing at out ++ records-from (n - at) at (drop (32 * at) list) m
@@ -229,5 +253,6 @@ module _ (n at : ℕ) (list out : List ℕ) (m : Machine) (h : at < n) (room : p
         ap (λ (l : List ℕ). l ++ records-from (n - (at + 1)) (at + 1) (drop (32 * (at + 1)) list) after) front
         ∙ sym (run-turn n at list (standing at out) m h after (given-here n at list m h enough r after answer z))
 
-    pub last-one : (r ≡ 0 → ⊥) → standing (at + 1) (putMid (place at) (place at + 64 - place at) out y) ≡ standing at out ++ records-from (n - at) at (drop (32 * at) list) m
+    pub last-one : (r ≡ 0 → ⊥) → standing (at + 1) (putMid (place at) (place at + 64 - place at) out y) ≡ standing at out
+        ++ records-from (n - at) at (drop (32 * at) list) m
     last-one z = front ∙ sym (run-stop n at list (standing at out) m h r (refused-here n at list m h enough r after answer z))

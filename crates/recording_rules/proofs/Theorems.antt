@@ -50,7 +50,8 @@ module _ (s : List ℕ) (step-long : length s ≡ 32) (v n k b : ℕ) where
   unfolding t trace all-zero
   upper = ap (λ (l : List ℕ). wide k || all-zero (take 4 l)) (after 28 60 refl) ∙ of (wide k)
     where
-      of : (w : Bool) → (w || all-zero (take 4 (drop 28 (digits 8 16 v ++ (n ∷ k ∷ replicate 6 0) ++ cond w (digits 8 8 b) (digits 8 4 b ++ replicate 4 0))))) ≡ true
+      of : (w : Bool) → (w || all-zero (take 4 (drop 28
+          (digits 8 16 v ++ (n ∷ k ∷ replicate 6 0) ++ cond w (digits 8 8 b) (digits 8 4 b ++ replicate 4 0))))) ≡ true
       of true = refl
       of false = refl
 
@@ -93,7 +94,8 @@ record Recordable (left place : ℕ) (m : Machine) (M : ℕ) (rs : List ℕ) : T
 
 -- one record more in front
 module _ (left place : ℕ) (m : Machine) (s : List ℕ) (ls : length s ≡ 32) (lt : length (trace-of place m s) ≡ 32)
-    (M : ℕ) (rest : List ℕ) (here : record-laid (eqb 1 (suc M)) (s ++ trace-of place m s) ≡ true) (others : Recordable left (suc place) (next place m s) M rest) where
+    (M : ℕ) (rest : List ℕ) (here : record-laid (eqb 1 (suc M)) (s ++ trace-of place m s) ≡ true)
+    (others : Recordable left (suc place) (next place m s) M rest) where
   abbrev u : List ℕ
   u = trace-of place m s
 
@@ -108,7 +110,8 @@ module _ (left place : ℕ) (m : Machine) (s : List ℕ) (ls : length s ≡ 32) 
   agree file f =
       let r : record-at file place ≡ s ++ u = ap (record-at file) (sym (add-zero place)) ∙ f 0 (omega arith) ∙ first s u rest ls lt in
       rw (r, take-at s u 32 ls, drop-at s u 32 ls, same-refl u)
-      (others .agree file (λ i h. ap (record-at file) (let p : suc place + i ≡ place + suc i = omega arith in p) ∙ f (suc i) (omega arith) ∙ later s u rest ls lt i))
+      (others .agree file (λ i h. ap (record-at file) (let p : suc place + i ≡ place + suc i = omega arith in p) ∙ f (suc i) (omega arith)
+      ∙ later s u rest ls lt i))
 
   in-front : Recordable (suc left) place m (suc M) (s ++ trace-of place m s ++ rest)
   in-front =
@@ -127,7 +130,8 @@ or-true : (b : Bool) → (b || true) ≡ true
 or-true true = refl
 or-true false = refl
 
-recordable : (left place : ℕ) (list : List ℕ) (m : Machine) → 32 * left ≤ length list → Recordable left place m (many left place list m) (records-from left place list m)
+recordable : (left place : ℕ) (list : List ℕ) (m : Machine) → 32 * left ≤ length list
+    → Recordable left place m (many left place list m) (records-from left place list m)
 unfolding records-from many trace-of next
 recordable zero place list m h = none 0 place m
 recordable (suc left) place list m h =
@@ -140,14 +144,18 @@ recordable (suc left) place list m h =
     ls = length-take-le 32 list (omega arith)
 
     go : (a : calculator.Answer Machine) → step place m (take 32 list) ≡ a
-        → ((after : Machine) → Recordable left (suc place) after (many left (suc place) (drop 32 list) after) (records-from left (suc place) (drop 32 list) after))
-        → Recordable (suc left) place m (suc (many-after a (λ next. many left (suc place) (drop 32 list) next))) (take 32 list ++ trace-of place m (take 32 list) ++ further a (λ next. records-from left (suc place) (drop 32 list) next))
+        → ((after : Machine) → Recordable left (suc place) after (many left (suc place) (drop 32 list) after)
+        (records-from left (suc place) (drop 32 list) after))
+        → Recordable (suc left) place m (suc (many-after a (λ next. many left (suc place) (drop 32 list) next)))
+        (take 32 list ++ trace-of place m (take 32 list) ++ further a (λ next. records-from left (suc place) (drop 32 list) next))
     go (calculator.given after) e ih =
         let traced : trace-of place m s ≡ trace (written s after) 0 (kind-byte (after .kind)) (after .bits) = ap (left-by s m) e in
         in-front left place m s ls (ap length traced ∙ length-trace (written s after) 0 (kind-byte (after .kind)) (after .bits)) _ _
         (ap (λ (t : List ℕ). record-laid (eqb 1 (suc (many left (suc place) (drop 32 list) after))) (s ++ t)) traced
-        ∙ laid-trace s ls (written s after) 0 (kind-byte (after .kind)) (after .bits) (eqb 1 (suc (many left (suc place) (drop 32 list) after))) (known-kind (after .kind)) (or-true (eqb 1 (suc (many left (suc place) (drop 32 list) after)))))
-        (subst (λ (x : Machine). Recordable left (suc place) x (many left (suc place) (drop 32 list) after) (records-from left (suc place) (drop 32 list) after)) (sym (ap (going-on m) e)) (ih after))
+        ∙ laid-trace s ls (written s after) 0 (kind-byte (after .kind)) (after .bits) (eqb 1 (suc (many left (suc place) (drop 32 list) after)))
+        (known-kind (after .kind)) (or-true (eqb 1 (suc (many left (suc place) (drop 32 list) after)))))
+        (subst (λ (x : Machine). Recordable left (suc place) x (many left (suc place) (drop 32 list) after)
+        (records-from left (suc place) (drop 32 list) after)) (sym (ap (going-on m) e)) (ih after))
     go (calculator.refused n) e ih =
         let traced : trace-of place m s ≡ trace 0 n (kind-byte (m .kind)) (m .bits) = ap (left-by s m) e in
         in-front left place m s ls (ap length traced ∙ length-trace 0 n (kind-byte (m .kind)) (m .bits)) 0 []
@@ -179,7 +187,13 @@ replay-of-recording list e ne =
     let M = many (length list / 32) 0 list start in
     let rs = records-from (length list / 32) 0 list start in
     let r = recordable (length list / 32) 0 list start (omega arith) in
-    let lawful : Lawful M rs = record { long = r .long; least = some (length list / 32) 0 list start (few (length list) w ne); most = (let h = r .most in omega arith); each = r .each } in
+    let lawful : Lawful M rs = record {
+      long = r .long;
+      least = some (length list / 32) 0 list start
+          (few (length list) w ne);
+      most = (let h = r .most in omega arith);
+      each = r .each;
+    } in
     ap (λ (j : Judged). definition.replay-judged j (packed rs)) (judged-packed M rs lawful)
     ∙ r .agree (packed rs) (λ i h. ap (record-at (packed rs)) (zero-add i) ∙ found M rs lawful i h)
 
@@ -196,7 +210,13 @@ module _ (list : List ℕ) (e : list-refusal (length list) 0 256 ≡ 0) (ne : le
       let least = some (length list / 32) 0 list start (few (length list) w ne) in
       let most = r .most in
       let n = length (records-from (length list / 32) 0 list start) in
-      rw (le-leb n 16384 (omega arith), eq-eqb (n % 64) 0 (omega arith), le-leb 64 n (omega arith), length-packed (blocks-for n) 0 (records-from (length list / 32) 0 list start))
+      rw (
+        le-leb n 16384 (omega arith),
+        eq-eqb (n % 64) 0 (omega arith),
+        le-leb 64 n (omega arith),
+        length-packed (blocks-for n) 0
+            (records-from (length list / 32) 0 list start),
+      )
 
   -- where a record of every step has room, those of the run have
   pub room-for-all : (room : ℕ) → fits (2 * length list) room ≡ true → fits (length (records-of list)) room ≡ true
@@ -222,7 +242,11 @@ length-recording list = length-packed (blocks-for (length (records-of list))) 0 
 -- the answers of the recorder, by its three tests
 abbrev answered : List ℕ → List ℕ → Bool → Bool → Bool → Recorded × List ℕ
 answered list out a b c =
-    cond a (cond b (empty, out) (cond c (wrote (length (definition.recording list)), definition.recording list ++ drop (length (definition.recording list)) out) (short, out)))
+    cond a (cond b (empty, out) (cond c (
+      wrote (length (definition.recording list)),
+      definition.recording list
+          ++ drop (length (definition.recording list)) out,
+    ) (short, out)))
     (rejected (list-refusal (length list) 0 256), out)
 
 -- n bytes are written only of a list that is neither refused nor empty, and they are its recording
@@ -234,7 +258,8 @@ record Written (list out : List ℕ) (n : ℕ) (left : List ℕ) : Type 0 where
 
 written-when : (list out : List ℕ) (n : ℕ) → definition.recorded list out .0 ≡ wrote n → Written list out n (definition.recorded list out .1)
 unfolding definition.recorded
-written-when list out n e = of (eqb (list-refusal (length list) 0 256) 0) (eqb (length list) 0) (leb (length (definition.recording list)) (length out)) refl refl refl e
+written-when list out n e = of (eqb (list-refusal (length list) 0 256) 0) (eqb (length list) 0)
+    (leb (length (definition.recording list)) (length out)) refl refl refl e
   where
     of : (a b c : Bool) → eqb (list-refusal (length list) 0 256) 0 ≡ a → eqb (length list) 0 ≡ b → leb (length (definition.recording list)) (length out) ≡ c
         → answered list out a b c .0 ≡ wrote n → Written list out n (answered list out a b c .1)

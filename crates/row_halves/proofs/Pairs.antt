@@ -38,7 +38,8 @@ Halved g x y z = (x < 2 ^ 64) × ((y < 2 ^ 64) × ((z < 2 ^ 64) × (z ≡ g x y)
 abbrev pub ByHalves : (ℕ → ℕ → ℕ) → (ℕ → ℕ → ℕ) → Type 0
 ByHalves f g = (a b c d : ℕ) → a < 2 ^ 64 → c < 2 ^ 64 → g a c + 2 ^ 64 * g b d ≡ f (a + 2 ^ 64 * b) (c + 2 ^ 64 * d)
 
-pub paired : (f g : ℕ → ℕ → ℕ) → ByHalves f g → (xs ys zs : List ℕ) → length xs % 2 ≡ 0 → Each (Halved g) xs ys zs → zs ≡ halves (zip f (vectors xs) (vectors ys))
+pub paired : (f g : ℕ → ℕ → ℕ) → ByHalves f g → (xs ys zs : List ℕ) → length xs % 2 ≡ 0 → Each (Halved g) xs ys zs → zs
+    ≡ halves (zip f (vectors xs) (vectors ys))
 paired f g by [] [] [] even e = refl
 paired f g by [] [] (z ∷ zs) even e = absurd e
 paired f g by [] (y ∷ ys) zs even e = absurd e
@@ -48,7 +49,8 @@ paired f g by (x ∷ []) (y ∷ ys) (z ∷ zs) even e = absurd (omega (arith, ev
 paired f g by (x ∷ x′ ∷ xs) (y ∷ []) (z ∷ zs) even e = absurd (e .1)
 paired f g by (x ∷ x′ ∷ xs) (y ∷ y′ ∷ ys) (z ∷ []) even e = absurd (e .1)
 paired f g by (x ∷ x′ ∷ xs) (y ∷ y′ ∷ ys) (z ∷ z′ ∷ zs) even (low, (high, rest)) =
-    let whole : z + 2 ^ 64 * z′ ≡ f (x + 2 ^ 64 * x′) (y + 2 ^ 64 * y′) = ap₂ (λ (l h : ℕ). l + 2 ^ 64 * h) (low .1 .1 .1) (high .1 .1 .1) ∙ by x x′ y y′ (low .0) (low .1 .0) in
+    let whole : z + 2 ^ 64 * z′ ≡ f (x + 2 ^ 64 * x′) (y + 2 ^ 64 * y′) = ap₂ (λ (l h : ℕ). l + 2 ^ 64 * h) (low .1 .1 .1) (high .1 .1 .1)
+    ∙ by x x′ y y′ (low .0) (low .1 .0) in
     ap₂ _∷_ (sym (low-digit 64 z z′ (low .1 .1 .0)) ∙ ap (λ (v : ℕ). v % 2 ^ 64) whole)
     (ap₂ _∷_ (sym (rest-digits 64 z z′ (low .1 .1 .0)) ∙ ap (λ (v : ℕ). v / 2 ^ 64) whole) (paired f g by xs ys zs (omega (arith, even)) rest))
 
@@ -65,19 +67,23 @@ pub turned : (g : ℕ → ℕ → ℕ) (xs ys zs : List ℕ) (i r : ℕ) → Tur
     → r ≡ g (getD zs i 0) (getD ys i 0) → Turning g xs ys (set zs i r) (i + 1)
 turned g xs ys zs i r (h, (lz, (ly, u))) less fz fy fr e =
     let was = same (Halved g) i xs ys zs 0 u in
-    let done = next (Halved g) i xs ys zs 0 r less (omega (arith, ly)) u (subst (λ (x : ℕ). x < 2 ^ 64) was (fz .fits), (fy .fits, (fr, e ∙ ap (λ (x : ℕ). g x (getD ys i 0)) was))) in
+    let done = next (Halved g) i xs ys zs 0 r less (omega (arith, ly)) u
+    (subst (λ (x : ℕ). x < 2 ^ 64) was (fz .fits), (fy .fits, (fr, e ∙ ap (λ (x : ℕ). g x (getD ys i 0)) was))) in
     (omega (arith, less), (length-set zs i r ∙ lz, (ly, subst (λ (k : ℕ). Upto (Halved g) k xs ys (set zs i r)) (sym (add-one i)) done)))
 
-pub all-turned : (f g : ℕ → ℕ → ℕ) → ByHalves f g → (xs ys zs : List ℕ) (i : ℕ) → length xs % 2 ≡ 0 → length xs ≤ i → Turning g xs ys zs i → zs ≡ halves (zip f (vectors xs) (vectors ys))
+pub all-turned : (f g : ℕ → ℕ → ℕ) → ByHalves f g → (xs ys zs : List ℕ) (i : ℕ) → length xs % 2 ≡ 0 → length xs ≤ i → Turning g xs ys zs i → zs
+    ≡ halves (zip f (vectors xs) (vectors ys))
 all-turned f g by xs ys zs i even over (h, (lz, (ly, u))) =
     let at-end : i ≡ length xs = omega (arith, over, h) in
     paired f g by xs ys zs even (full (Halved g) xs ys zs (sym ly) (subst (λ (k : ℕ). Upto (Halved g) k xs ys zs) at-end u))
 
 -- one row, as a row beside itself
-pub all-counted : (xs zs : List ℕ) (i : ℕ) → length xs % 2 ≡ 0 → length xs ≤ i → Turning (λ x y. half-unary 8 (ipopcnt 8) x) xs xs zs i → zs ≡ halves (map (unary 8 (ipopcnt 8)) (vectors xs))
+pub all-counted : (xs zs : List ℕ) (i : ℕ) → length xs % 2 ≡ 0 → length xs ≤ i → Turning (λ x y. half-unary 8 (ipopcnt 8) x) xs xs zs i → zs
+    ≡ halves (map (unary 8 (ipopcnt 8)) (vectors xs))
 unfolding half-unary
 all-counted xs zs i even over t =
-    all-turned (λ u v. unary 8 (ipopcnt 8) u) (λ x y. half-unary 8 (ipopcnt 8) x) (λ a b c d ha hc. unary-halves 8 8 refl refl a b ha (ipopcnt 8) refl refl) xs xs zs i even over t
+    all-turned (λ u v. unary 8 (ipopcnt 8) u) (λ x y. half-unary 8 (ipopcnt 8) x)
+    (λ a b c d ha hc. unary-halves 8 8 refl refl a b ha (ipopcnt 8) refl refl) xs xs zs i even over t
     ∙ ap halves (zip-map (unary 8 (ipopcnt 8)) (vectors xs))
 
 -- a refused call leaves the row

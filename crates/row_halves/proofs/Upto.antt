@@ -41,7 +41,8 @@ module _ {A : Type 0} (P : A → A → A → Type 0) where
   same (suc i) (x ∷ xs) (y ∷ ys) [] d u = absurd u
 
   -- one more is written
-  pub next : (i : ℕ) (xs ys zs : List A) (d w : A) → i < length xs → i < length ys → Upto i xs ys zs → P (getD xs i d) (getD ys i d) w → Upto (suc i) xs ys (set zs i w)
+  pub next : (i : ℕ) (xs ys zs : List A) (d w : A) → i < length xs → i < length ys → Upto i xs ys zs → P (getD xs i d) (getD ys i d) w
+      → Upto (suc i) xs ys (set zs i w)
   next zero [] ys zs d w lx ly u p = absurd (not-suc-le-zero lx)
   next zero (x ∷ xs) [] zs d w lx ly u p = absurd (not-suc-le-zero ly)
   next zero (x ∷ xs) (y ∷ ys) zs d w lx ly u p = subst (λ (l : List A). Upto 1 (x ∷ xs) (y ∷ ys) (set l 0 w)) (sym u) (p, refl)

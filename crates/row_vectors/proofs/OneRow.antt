@@ -148,7 +148,8 @@ module _ (g : ℕ → ℕ) {M : Type 1} (𝓤 : URA M) (H : Heap 𝓤) (A : Atom
   to-op u = ((tt, tt, tt, (u, tt), (vals u, tt)), tt)
 
   goes-op : (u : V128) → Is R u (vals u) → ent 𝓤 (emp 𝓤) (Op g 𝓤 H A .pre (to-op u))
-  goes-op u iu = qed W [] ∵ nothing ! $ owned ! R (Is R) (LL.makes T.the-type T′.the-plain 𝓤 H A) u _ iu $ fjoin ! $ nothing ! $ join ! $ nothing ! $ move ! (1 ∷ 0 ∷ []) $ done !
+  goes-op u iu = qed W [] ∵ nothing ! $ owned ! R (Is R) (LL.makes T.the-type T′.the-plain 𝓤 H A) u _ iu $ fjoin ! $ nothing ! $ join ! $ nothing ! $ move !
+      (1 ∷ 0 ∷ []) $ done !
 
   ensured-op : (u r : V128) → ent 𝓤 (ensured 𝓤 H A op-ended (op-clauses g 𝓤) tt (u, tt) tt r) (fact 𝓤 (Does (alone g) u u r))
   ensured-op u r = exE 𝓤 _ (λ ws. snd∗ 𝓤 (sem 𝓤 H A (lasts op-ended tt (u, tt) ws)) (fact 𝓤 (Does (alone g) u u r)))
@@ -174,8 +175,10 @@ module _ (g : ℕ → ℕ) {M : Type 1} (𝓤 : URA M) (H : Heap 𝓤) (A : Atom
 
     -- the locals, the last first: local k stands at 21 - 2k, where the three entries of the borrow are before them
     abbrev At : State → List (Item 𝓤)
-    At s = Held₁ (s .1 .0) (‵ (froom tyPtr l₉ 0) ∷ ‵ (fdies tyPtr l₉) ∷ ‵ (froom word l₈ 0) ∷ ‵ (fdies word l₈) ∷ ‵ (froom vec l₇ 0) ∷ ‵ (fdies vec l₇) ∷ ‵ (froom tyPtr l₆ 0) ∷ ‵ (fdies tyPtr l₆) ∷ ‵ (froom vec l₅ 0) ∷ ‵ (fdies vec l₅)
-        ∷ ‵ (froom tyBool l₄ 0) ∷ ‵ (fdies tyBool l₄) ∷ ‵ (froom word l₃ 0) ∷ ‵ (fdies word l₃) ∷ ‵ (fat fullShare word l₂ 0 (vint w64 (s .0))) ∷ ‵ (fdies word l₂) ∷ ‵ (fat fullShare row₁ l₁ 0 s₁) ∷ ‵ (fdies row₁ l₁) ∷ ‵ (froom tyUnit l₀ 0) ∷ ‵ (fdies tyUnit l₀) ∷ [])
+    At s = Held₁ (s .1 .0) (‵ (froom tyPtr l₉ 0) ∷ ‵ (fdies tyPtr l₉) ∷ ‵ (froom word l₈ 0) ∷ ‵ (fdies word l₈) ∷ ‵ (froom vec l₇ 0) ∷ ‵ (fdies vec l₇) ∷ ‵
+        (froom tyPtr l₆ 0) ∷ ‵ (fdies tyPtr l₆) ∷ ‵ (froom vec l₅ 0) ∷ ‵ (fdies vec l₅)
+        ∷ ‵ (froom tyBool l₄ 0) ∷ ‵ (fdies tyBool l₄) ∷ ‵ (froom word l₃ 0) ∷ ‵ (fdies word l₃) ∷ ‵ (fat fullShare word l₂ 0 (vint w64 (s .0))) ∷ ‵
+        (fdies word l₂) ∷ ‵ (fat fullShare row₁ l₁ 0 s₁) ∷ ‵ (fdies row₁ l₁) ∷ ‵ (froom tyUnit l₀ 0) ∷ ‵ (fdies tyUnit l₀) ∷ [])
 
     abbrev Turned : State → Out → SProp 𝓤
     Turned s = afterTurn 𝓤 H (Below 𝓤 H A Nearer At s) (afterBlock 𝓤 H (afterSeq 𝓤 H (Wp 𝓤 H C Λ En rest (atReturn 𝓤 H En Post)) (atReturn 𝓤 H En Post)))
@@ -183,39 +186,50 @@ module _ (g : ℕ → ℕ) {M : Type 1} (𝓤 : URA M) (H : Heap 𝓤) (A : Atom
     turns : (s : State) → Sq W (At s) (runs C Λ En (turn f) (anyQ (Turned s)))
     unfolding afterTurn
     turns s =
-        assigns ! (of-opd ! (load ! (from ! (fld ! refl (stop !))) (look-in ! 19 (sub ! 1 refl (whole !))))) (from ! (stop !)) (init ! 15 refl (tt, record { fits = room .0 })) $
-        assigns ! (bin ! (load ! (from ! (stop !)) (look ! 17 refl)) (load ! (from ! (stop !)) (look ! 15 refl)) tt) (from ! (stop !)) (init ! 13 refl (tt, tt)) $
+        assigns ! (of-opd ! (load ! (from ! (fld ! refl (stop !))) (look-in ! 19 (sub ! 1 refl (whole !))))) (from ! (stop !))
+        (init ! 15 refl (tt, record { fits = room .0 })) $
+        assigns ! (bin ! (load ! (from ! (stop !)) (look ! 17 refl)) (load ! (from ! (stop !)) (look ! 15 refl)) tt) (from ! (stop !))
+        (init ! 13 refl (tt, tt)) $
         first ! $ branches ! (load ! (from ! (stop !)) (look ! 13 refl))
         (λ less. skips ! $ exec ! C Λ En (more f) (anyQ (Turned s)) $
         assigns ! (bin ! (load ! (from ! (stop !)) (look ! 17 refl)) (lit ! tt) (scaled less)) (from ! (stop !)) (store ! 15 refl (tt, scaled less)) $
-        assigns ! (bin ! (load ! (from ! (fld ! refl (stop !))) (look-in ! 19 (sub ! 0 refl (whole !)))) (load ! (from ! (stop !)) (look ! 15 refl)) tt) (from ! (stop !)) (init ! 9 refl (tt, tt)) $
+        assigns ! (bin ! (load ! (from ! (fld ! refl (stop !))) (look-in ! 19 (sub ! 0 refl (whole !)))) (load ! (from ! (stop !)) (look ! 15 refl)) tt)
+        (from ! (stop !)) (init ! 9 refl (tt, tt)) $
         rewrite ! 9 (λ (p : ℕ). ‵ (fat fullShare tyPtr l₆ 0 (vptr b p))) (sym (place-is 16 o i)) refl $
         opens-slice ! tt R zs b o $ elem-out ! R (Is R) (shows 𝓤 H A R) vals tells fullShare zs i d b o (in-zs less) (λ iu.
         -- [the element; what it owns; the others; the open borrow; obs; auth; the locals]
-        assigns ! (of-opd ! (load ! (from ! (hop ! (look ! 12 refl) (stop !))) (look-raw ! 0 refl))) (from ! (stop !)) (init ! 10 refl (LL.lawful T.the-type T′.the-laws 𝓤 H A W .typed u _ iu .0)) $
+        assigns ! (of-opd ! (load ! (from ! (hop ! (look ! 12 refl) (stop !))) (look-raw ! 0 refl))) (from ! (stop !))
+        (init ! 10 refl (LL.lawful T.the-type T′.the-laws 𝓤 H A W .typed u _ iu .0)) $
         elem-back ! R fullShare zs i d (vals u) b o (in-zs less) $ closes-slice ! tt R zs zs refl b o $
         use0 W (raw (Op g 𝓤 H A .pre (to-op u))) (goes-op u iu) $
         calls-at ! fm (Op g 𝓤 H A) known (to-op u) (and-then ! (load ! (from ! (stop !)) (look ! 8 refl)) (no-more !)) (λ w.
-        use1 W (later (some (λ (r : V128). (‵ ftrue ⊛ ‵ (R .own r (w ∷ []))) ⊛ raw (ensured 𝓤 H A op-ended (op-clauses g 𝓤) tt (u, tt) tt r)))) (id⊢ 𝓤 _) $ await ! tt $ pick ! (λ r.
+        use1 W (later (some (λ (r : V128). (‵ ftrue ⊛ ‵ (R .own r (w ∷ []))) ⊛ raw (ensured 𝓤 H A op-ended (op-clauses g 𝓤) tt (u, tt) tt r))))
+        (id⊢ 𝓤 _) $ await ! tt $ pick ! (λ r.
         split ! $ move ! (1 ∷ []) $ use1 W (raw (fact 𝓤 (Does (alone g) u u r))) (ensured-op u r) $ heard ! (Does (alone g) u u r) (λ e. split ! $ drop ! $
         peeks ! R (Is R) (shows 𝓤 H A R) r (w ∷ []) (λ ir.
         land ! (from ! (stop !)) (init ! 12 refl (LL.lawful T.the-type T′.the-laws 𝓤 H A W .typed r _ ir .0)) $
         -- [what the result owns; the three of the borrow; the locals]
         assigns ! (bin ! (load ! (from ! (stop !)) (look ! 18 refl)) (lit ! tt) (scaled less)) (from ! (stop !)) (init ! 6 refl (tt, scaled less)) $
-        assigns ! (bin ! (load ! (from ! (fld ! refl (stop !))) (look-in ! 20 (sub ! 0 refl (whole !)))) (load ! (from ! (stop !)) (look ! 6 refl)) tt) (from ! (stop !)) (init ! 4 refl (tt, tt)) $
+        assigns ! (bin ! (load ! (from ! (fld ! refl (stop !))) (look-in ! 20 (sub ! 0 refl (whole !)))) (load ! (from ! (stop !)) (look ! 6 refl)) tt)
+        (from ! (stop !)) (init ! 4 refl (tt, tt)) $
         rewrite ! 4 (λ (p : ℕ). ‵ (fat fullShare tyPtr l₉ 0 (vptr b p))) (sym (place-is 16 o i)) refl $
         move ! (1 ∷ 2 ∷ 3 ∷ []) $ opens-slice ! tt R zs b o $ elem-out ! R (Is R) (shows 𝓤 H A R) vals tells fullShare zs i d b o (in-zs less) (λ _.
         -- [the element; what it owns; the others; the open borrow; obs; auth; what the result owns; the locals]
-        assigns ! (of-opd ! (load ! (from ! (stop !)) (look ! 15 refl))) (from ! (hop ! (look ! 7 refl) (stop !))) (store-raw ! 0 refl (LL.lawful T.the-type T′.the-laws 𝓤 H A W .typed r _ ir .0)) $
-        move ! (1 ∷ []) $ drop ! $ move ! (0 ∷ 5 ∷ []) $ elem-put ! R fullShare zs i r (w ∷ []) b o (in-zs less) $ closes-slice ! tt R zs (set zs i r) (length-set zs i r) b o $
+        assigns ! (of-opd ! (load ! (from ! (stop !)) (look ! 15 refl))) (from ! (hop ! (look ! 7 refl) (stop !)))
+        (store-raw ! 0 refl (LL.lawful T.the-type T′.the-laws 𝓤 H A W .typed r _ ir .0)) $
+        move ! (1 ∷ []) $ drop ! $ move ! (0 ∷ 5 ∷ []) $ elem-put ! R fullShare zs i r (w ∷ []) b o (in-zs less) $ closes-slice ! tt R zs (set zs i r)
+        (length-set zs i r) b o $
         assigns-last ! (bin ! (load ! (from ! (stop !)) (look ! 17 refl)) (lit ! tt) (one-more less)) (from ! (stop !)) (store ! 17 refl (tt, one-more less)) $
-        forget ! 3 refl $ forget ! 5 refl $ forget ! 7 refl $ forget ! 9 refl $ forget ! 11 refl $ forget ! 13 refl $ forget ! 15 refl $ again ! Nearer At s (onward less r e) (falls n i (in-xs less)))))))))
+        forget ! 3 refl $ forget ! 5 refl $ forget ! 7 refl $ forget ! 9 refl $ forget ! 11 refl $ forget ! 13 refl $ forget ! 15 refl $ again ! Nearer At s
+        (onward less r e) (falls n i (in-xs less)))))))))
         (λ over. jumps ! $ exec ! C Λ En rest (atRet En Post) $
         assigns ! (of-opd ! (unit-lit !)) (from ! (stop !)) (init ! 21 refl (tt, tt)) $
         returns ! (look ! 21 refl) $ forget ! 13 refl $ forget ! 15 refl $ forget ! 17 refl $ forget ! 19 refl $ forget ! 21 refl $
-        move ! (21 ∷ 22 ∷ []) $ free1 ! $ move ! (19 ∷ 20 ∷ []) $ free1 ! $ move ! (17 ∷ 18 ∷ []) $ free1 ! $ move ! (15 ∷ 16 ∷ []) $ free1 ! $ move ! (13 ∷ 14 ∷ []) $ free1 ! $ move ! (11 ∷ 12 ∷ []) $ free1 ! $
+        move ! (21 ∷ 22 ∷ []) $ free1 ! $ move ! (19 ∷ 20 ∷ []) $ free1 ! $ move ! (17 ∷ 18 ∷ []) $ free1 ! $ move ! (15 ∷ 16 ∷ []) $ free1 ! $ move !
+        (13 ∷ 14 ∷ []) $ free1 ! $ move ! (11 ∷ 12 ∷ []) $ free1 ! $
         move ! (9 ∷ 10 ∷ []) $ free1 ! $ move ! (7 ∷ 8 ∷ []) $ free1 ! $ move ! (5 ∷ 6 ∷ []) $ free1 ! $ move ! (3 ∷ 4 ∷ []) $ free1 ! $ free0 ! $
-        by ! (exits room zs (long (Does (alone g)) i xs xs zs (s .1 .1 .1)) (mapped g xs zs (full (Does (alone g)) xs xs zs refl (subst (λ (k : ℕ). Upto (Does (alone g)) k xs xs zs) (ends over) (s .1 .1 .1))))))
+        by ! (exits room zs (long (Does (alone g)) i xs xs zs (s .1 .1 .1))
+        (mapped g xs zs (full (Does (alone g)) xs xs zs refl (subst (λ (k : ℕ). Upto (Does (alone g)) k xs xs zs) (ends over) (s .1 .1 .1))))))
       where
         i : ℕ
         i = s .0
@@ -249,7 +263,8 @@ module _ (g : ℕ → ℕ) {M : Type 1} (𝓤 : URA M) (H : Heap 𝓤) (A : Atom
             (
               omega (arith, in-xs less),
               subst (λ (k : ℕ). Upto (Does (alone g)) k xs xs (set (s .1 .0) (s .0) r)) (sym (add-one (s .0)))
-                  (next (Does (alone g)) (s .0) xs xs (s .1 .0) d r (in-xs less) (in-xs less) (s .1 .1 .1) (subst (λ (h : V128). Does (alone g) h h r) (same (Does (alone g)) (s .0) xs xs (s .1 .0) d (s .1 .1 .1)) e)),
+                  (next (Does (alone g)) (s .0) xs xs (s .1 .0) d r (in-xs less) (in-xs less) (s .1 .1 .1)
+                  (subst (λ (h : V128). Does (alone g) h h r) (same (Does (alone g)) (s .0) xs xs (s .1 .0) d (s .1 .1 .1)) e)),
             ),
           ),
         )
@@ -257,19 +272,27 @@ module _ (g : ℕ → ℕ) {M : Type 1} (𝓤 : URA M) (H : Heap 𝓤) (A : Atom
         ends : T (not (ltb (s .0) n)) → s .0 ≡ n
         ends over = omega (arith, nltb→le (s .0) n over, s .1 .1 .0)
 
-  walk : Room R n → (f : Name) (𝓣 : Tables 𝓤 H) → Triple 𝓤 (𝓣 .C f) (Op g 𝓤 H A) → ent 𝓤 (onEntry 𝓤 H A signature (κ, tt) (q, tt) a at) (WpFn 𝓤 H (𝓣 .C) (𝓣 .Λ) (function f) (s₁ ∷ []) Post)
+  walk : Room R n → (f : Name) (𝓣 : Tables 𝓤 H) → Triple 𝓤 (𝓣 .C f) (Op g 𝓤 H A)
+      → ent 𝓤 (onEntry 𝓤 H A signature (κ, tt) (q, tt) a at) (WpFn 𝓤 H (𝓣 .C) (𝓣 .Λ) (function f) (s₁ ∷ []) Post)
   walk room f 𝓣 known =
-      qed W ((‵ (flft κ q) ⊛ ‵ ftrue) ∷ ‵ (owns (MutSlice (named 0) κ R ∷ []) a at) ∷ []) ∵ split ! $ move ! (2 ∷ []) $ fsplit ! $ fsplit ! $ drop ! $ fsplit ! $ keep ! (0 ∷ 1 ∷ 3 ∷ []) $
+      qed W ((‵ (flft κ q) ⊛ ‵ ftrue) ∷ ‵ (owns (MutSlice (named 0) κ R ∷ []) a at) ∷ []) ∵ split ! $ move !
+      (2 ∷ []) $ fsplit ! $ fsplit ! $ drop ! $ fsplit ! $ keep ! (0 ∷ 1 ∷ 3 ∷ []) $
       enter ! (𝓣 .C) (𝓣 .Λ) (function f) (s₁ ∷ []) _ $
-      alloc1 ! (λ l₀. alloc1 ! (λ l₁. alloc1 ! (λ l₂. alloc1 ! (λ l₃. alloc1 ! (λ l₄. alloc1 ! (λ l₅. alloc1 ! (λ l₆. alloc1 ! (λ l₇. alloc1 ! (λ l₈. alloc1 ! (λ l₉. alloc0 ! $ params1 ! $
+      alloc1 ! (λ l₀. alloc1 ! (λ l₁. alloc1 ! (λ l₂. alloc1 !
+      (λ l₃. alloc1 ! (λ l₄. alloc1 ! (λ l₅. alloc1 ! (λ l₆. alloc1 ! (λ l₇. alloc1 ! (λ l₈. alloc1 ! (λ l₉. alloc0 ! $ params1 ! $
       pass1 ! (init ! 16 refl (tt, (tt, (record { fits = room .0 }, tt)))) $ pass0 ! $ move ! (20 ∷ 21 ∷ 22 ∷ []) $
       assigns ! (of-opd ! (lit ! tt)) (from ! (stop !)) (init ! 17 refl (tt, record { fits = lit< tt })) $
-      first ! $ blocks ! $ loops ! 𝓣 (Nearer room f 𝓣 known l₀ l₁ l₂ l₃ l₄ l₅ l₆ l₇ l₈ l₉) (Nearer-wf room f 𝓣 known l₀ l₁ l₂ l₃ l₄ l₅ l₆ l₇ l₈ l₉) (At room f 𝓣 known l₀ l₁ l₂ l₃ l₄ l₅ l₆ l₇ l₈ l₉) (turns room f 𝓣 known l₀ l₁ l₂ l₃ l₄ l₅ l₆ l₇ l₈ l₉) (0, (xs, (omega arith, refl)))))))))))))
+      first ! $ blocks ! $ loops ! 𝓣 (Nearer room f 𝓣 known l₀ l₁ l₂ l₃ l₄ l₅ l₆ l₇ l₈ l₉) (Nearer-wf room f 𝓣 known l₀ l₁ l₂ l₃ l₄ l₅ l₆ l₇ l₈ l₉)
+      (At room f 𝓣 known l₀ l₁ l₂ l₃ l₄ l₅ l₆ l₇ l₈ l₉) (turns room f 𝓣 known l₀ l₁ l₂ l₃ l₄ l₅ l₆ l₇ l₈ l₉) (0, (xs, (omega arith, refl)))))))))))))
 
-module _ (g : ℕ → ℕ) {M : Type 1} (𝓤 : URA M) (H : Heap 𝓤) (A : Atoms 𝓤) (W : Given 𝓤 H A) (f : Name) (𝓣 : Tables 𝓤 H) (known : Triple 𝓤 (𝓣 .C f) (Op g 𝓤 H A)) where
+module _ (g : ℕ → ℕ) {M : Type 1} (𝓤 : URA M) (H : Heap 𝓤) (A : Atoms 𝓤) (W : Given 𝓤 H A) (f : Name) (𝓣 : Tables 𝓤 H)
+    (known : Triple 𝓤 (𝓣 .C f) (Op g 𝓤 H A)) where
   row-walks : Walks 𝓤 H A ended stayed (WpFn 𝓤 H (𝓣 .C) (𝓣 .Λ) (function f)) (clauses g 𝓤)
-  row-walks = walked 𝓤 H A ended stayed (clauses g 𝓤) (WpFn 𝓤 H (𝓣 .C) (𝓣 .Λ) (function f)) (λ κs. (slice-vals, tt)) (λ κs. (mut-slice-tells (named 0) (κs .0) R, tt))
-      (λ κs qs bounds a given are. via 𝓤 _ (fst∗ 𝓤 _ (emp 𝓤)) (walk g 𝓤 H A W (κs .0) (qs .0) (a .0 .ptr .0) (a .0 .ptr .1) (a .0 .name) (a .0 .now) (are .0 .0 .1) f 𝓣 known))
+  row-walks = walked 𝓤 H A ended stayed (clauses g 𝓤) (WpFn 𝓤 H (𝓣 .C) (𝓣 .Λ) (function f)) (λ κs. (slice-vals, tt))
+      (λ κs. (mut-slice-tells (named 0) (κs .0) R, tt))
+      (λ κs qs bounds a given are. via 𝓤 _ (fst∗ 𝓤 _ (emp 𝓤))
+      (walk g 𝓤 H A W (κs .0) (qs .0) (a .0 .ptr .0) (a .0 .ptr .1) (a .0 .name) (a .0 .now) (are .0 .0 .1) f 𝓣 known))
 
   pub row-meets : Meets 𝓤 H A signature (WpFn 𝓤 H (𝓣 .C) (𝓣 .Λ) (function f)) (closing 𝓤 H A ended (clauses g 𝓤))
-  row-meets = walk-meets 𝓤 H A ended stayed W (goes-slice 𝓤 H A W 1 0 tt (plain (λ _. R)), tt) (clauses g 𝓤) (WpFn 𝓤 H (𝓣 .C) (𝓣 .Λ) (function f)) (WpFn-mono 𝓤 H (W .laws) 𝓣 (function f)) row-walks
+  row-meets = walk-meets 𝓤 H A ended stayed W (goes-slice 𝓤 H A W 1 0 tt (plain (λ _. R)), tt) (clauses g 𝓤) (WpFn 𝓤 H (𝓣 .C) (𝓣 .Λ) (function f))
+      (WpFn-mono 𝓤 H (W .laws) 𝓣 (function f)) row-walks

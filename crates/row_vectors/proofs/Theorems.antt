@@ -31,7 +31,8 @@ row-coincides (z ∷ zs) [] hz hu e = absurd (suc-ne-zero (length (map number zs
 row-coincides (z ∷ zs) (u ∷ us) (hz, hzs) (hu, hus) e = ap₂ _∷_ (vectors-coincide z u hz hu (ap first-of e)) (row-coincides zs us hzs hus (ap rest-of e))
 
 -- the refusal, and every vector that is left
-pub combined-coincide : (f : ℕ → ℕ → ℕ) (xs ys : List V128) (r q : ℕ) (zs us : List V128) → HeldAll zs → HeldAll us → Combined f xs ys r zs → Combined f xs ys q us → (r ≡ q) × (zs ≡ us)
+pub combined-coincide : (f : ℕ → ℕ → ℕ) (xs ys : List V128) (r q : ℕ) (zs us : List V128) → HeldAll zs → HeldAll us → Combined f xs ys r zs
+    → Combined f xs ys q us → (r ≡ q) × (zs ≡ us)
 combined-coincide f xs ys r q zs us hz hu (er, ez) (eq, eu) =
     let same : r ≡ q = er ∙ sym eq in
     (same, row-coincides zs us hz hu (ez ∙ ap (λ (n : ℕ). after n (zip f (map number xs) (map number ys)) (map number xs)) same ∙ sym eu))
@@ -49,7 +50,8 @@ at-place f zero (x ∷ xs) (y ∷ ys) (z ∷ zs) d hx hy e = ap first-of e
 at-place f (suc i) (x ∷ xs) (y ∷ ys) (z ∷ zs) d hx hy e = at-place f i xs ys zs d (le-of-suc-le-suc hx) (le-of-suc-le-suc hy) (ap rest-of e)
 
 -- "Equal, element by element, to the single operation": at each place i of rows that are not refused, f of the two vectors
-pub element : (f : ℕ → ℕ → ℕ) (xs ys zs : List V128) (i : ℕ) (d : V128) → i < length xs → i < length ys → Combined f xs ys 0 zs → number (getD zs i d) ≡ f (number (getD xs i d)) (number (getD ys i d))
+pub element : (f : ℕ → ℕ → ℕ) (xs ys zs : List V128) (i : ℕ) (d : V128) → i < length xs → i < length ys → Combined f xs ys 0 zs → number (getD zs i d)
+    ≡ f (number (getD xs i d)) (number (getD ys i d))
 element f xs ys zs i d hx hy (e, ez) = at-place f i xs ys zs d hx hy ez
 
 -- and at each place i of one row, f of the vector

@@ -21,7 +21,8 @@ elements-append : (xs : List ℕ) (i m n : ℕ) → elements xs i (m + n) ≡ el
 elements-append xs i zero n = ap₂ (elements xs) (sym (add-zero i)) (zero-add n)
 elements-append xs i (suc m) n =
     ap (elements xs i) (suc-add m n)
-    ∙ ap (λ (r : List ℕ). getD xs i 0 ∷ r) (elements-append xs (suc i) m n ∙ ap (λ (k : ℕ). elements xs (suc i) m ++ elements xs k n) (suc-add i m ∙ sym (add-suc i m)))
+    ∙ ap (λ (r : List ℕ). getD xs i 0 ∷ r) (elements-append xs (suc i) m n
+    ∙ ap (λ (k : ℕ). elements xs (suc i) m ++ elements xs k n) (suc-add i m ∙ sym (add-suc i m)))
 
 pub tail-elements : (x : ℕ) (xs : List ℕ) (i n : ℕ) → elements (x ∷ xs) (suc i) n ≡ elements xs i n
 tail-elements x xs i zero = refl
@@ -82,9 +83,11 @@ module _ (w n : ℕ) (half : w * n ≡ 64) where
     unfolding binary
     binary-halves f c d hc el eh =
         ap₂ (λ (l h : ℕ). l + 2 ^ 64 * h) el eh
-        ∙ sym (joined-halves (zip f (digits w n a) (digits w n c)) (zip f (digits w n b) (digits w n d)) (length-zip f (digits w n a) (digits w n c) same ∙ length-digits w n a))
+        ∙ sym (joined-halves (zip f (digits w n a) (digits w n c)) (zip f (digits w n b) (digits w n d))
+        (length-zip f (digits w n a) (digits w n c) same ∙ length-digits w n a))
         ∙ ap (joined w)
-        (sym (zip-append f (digits w n a) (digits w n c) (digits w n b) (digits w n d) same) ∙ ap₂ (zip f) (sym (lanes-halves whole a b ha)) (sym (lanes-halves whole c d hc)))
+        (sym (zip-append f (digits w n a) (digits w n c) (digits w n b) (digits w n d) same)
+        ∙ ap₂ (zip f) (sym (lanes-halves whole a b ha)) (sym (lanes-halves whole c d hc)))
       where
         same : length (digits w n a) ≡ length (digits w n c)
         same = length-digits w n a ∙ sym (length-digits w n c)

@@ -34,7 +34,8 @@ zip-map f [] = refl
 zip-map f (x ∷ xs) = ap (λ (r : List ℕ). f x ∷ r) (zip-map f xs)
 
 -- of lists with idle places after them, the lanes, once the loop is past them
-zipTo-front : (f : ℕ → ℕ → ℕ) (i : ℕ) (xs ys u v : List ℕ) → length xs ≡ length ys → length xs ≤ i → take (length xs) (zipTo f i (xs ++ u) (ys ++ v)) ≡ zip f xs ys
+zipTo-front : (f : ℕ → ℕ → ℕ) (i : ℕ) (xs ys u v : List ℕ) → length xs ≡ length ys → length xs ≤ i → take (length xs) (zipTo f i (xs ++ u) (ys ++ v))
+    ≡ zip f xs ys
 zipTo-front f i [] ys u v e h = refl
 zipTo-front f i (x ∷ xs) [] u v e h = absurd (suc-ne-zero (length xs) e)
 zipTo-front f zero (x ∷ xs) (y ∷ ys) u v e h = absurd (not-suc-le-zero h)

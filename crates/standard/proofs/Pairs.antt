@@ -41,13 +41,15 @@ unfolding unary extadd-pairwise
 extadd-16 sx x = ap (joined 32) (sym (pairs 16 (iadd 32) (sx 16 32) 4 x))
 
 pub dot-8 : (x y : ℕ)
-    → binary 16 (λ a b. iadd 16 (imul 16 (extend-s 8 16 (a % 2 ^ 8)) (extend-s 8 16 (b % 2 ^ 8))) (imul 16 (extend-s 8 16 (a / 2 ^ 8)) (extend-s 8 16 (b / 2 ^ 8)))) x y
+    → binary 16 (λ a b. iadd 16 (imul 16 (extend-s 8 16 (a % 2 ^ 8)) (extend-s 8 16 (b % 2 ^ 8)))
+    (imul 16 (extend-s 8 16 (a / 2 ^ 8)) (extend-s 8 16 (b / 2 ^ 8)))) x y
     ≡ dot 8 x y
 unfolding binary dot
 dot-8 x y = ap (joined 16) (sym (pairs₂ 8 (iadd 16) (extend-s 8 16) (imul 16) 8 x y))
 
 pub dot-16 : (x y : ℕ)
-    → binary 32 (λ a b. iadd 32 (imul 32 (extend-s 16 32 (a % 2 ^ 16)) (extend-s 16 32 (b % 2 ^ 16))) (imul 32 (extend-s 16 32 (a / 2 ^ 16)) (extend-s 16 32 (b / 2 ^ 16)))) x y
+    → binary 32 (λ a b. iadd 32 (imul 32 (extend-s 16 32 (a % 2 ^ 16)) (extend-s 16 32 (b % 2 ^ 16)))
+    (imul 32 (extend-s 16 32 (a / 2 ^ 16)) (extend-s 16 32 (b / 2 ^ 16)))) x y
     ≡ dot 16 x y
 unfolding binary dot
 dot-16 x y = ap (joined 32) (sym (pairs₂ 16 (iadd 32) (extend-s 16 32) (imul 32) 4 x y))

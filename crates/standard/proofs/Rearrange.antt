@@ -63,7 +63,8 @@ take-map f (suc n) [] = refl
 take-map f (suc n) (x ∷ xs) = ap (λ (r : List ℕ). f x ∷ r) (take-map f n xs)
 
 -- so sixteen indices, each held to at most 16, name the bytes that they name or 0
-pub held-indices : (xs : List ℕ) → length xs ≡ 16 → (is : List ℕ) → map (λ i. getD (xs ++ replicate 16 0) (i % 32) 0) (map (λ i. imin-u 8 i 16) is) ≡ map (λ i. getD xs i 0) is
+pub held-indices : (xs : List ℕ) → length xs ≡ 16 → (is : List ℕ) → map (λ i. getD (xs ++ replicate 16 0) (i % 32) 0) (map (λ i. imin-u 8 i 16) is)
+    ≡ map (λ i. getD xs i 0) is
 held-indices xs l [] = refl
 held-indices xs l (i ∷ is) = ap₂ _∷_ (byte-or-zero xs l i) (held-indices xs l is)
 

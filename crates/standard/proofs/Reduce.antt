@@ -67,7 +67,8 @@ pub all-true-is : (w : ℕ) → 1 < 2 ^ w → (x : ℕ) {z : ℕ} (any : Bool) �
 unfolding binary any-true all-true
 all-true-is w h x {z} any ez ea =
     other any (eqb z 0) ea
-    ∙ ap (λ (n : ℕ). cond (eqb n 0) 1 0) (ez ∙ ap (λ (ys : List ℕ). joined w (zip (ieq w) (lanes w x) ys)) (zeros w (128 / w) ∙ ap (λ (n : ℕ). replicate n 0) (sym (length-digits w (128 / w) x))))
+    ∙ ap (λ (n : ℕ). cond (eqb n 0) 1 0) (ez ∙ ap (λ (ys : List ℕ). joined w (zip (ieq w) (lanes w x) ys))
+    (zeros w (128 / w) ∙ ap (λ (n : ℕ). replicate n 0) (sym (length-digits w (128 / w) x))))
     ∙ compared w h (lanes w x)
 
 -- A loop over the lanes of a vector.

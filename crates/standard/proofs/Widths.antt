@@ -27,10 +27,12 @@ halves-of xs ys e =
 
 pub parts : (w n : ℕ) → w * n ≡ 64 → n + n ≡ 128 / w → (a b : ℕ) → a < 2 ^ 64
     → (lowHalf (lanes w (a + 2 ^ 64 * b)) ≡ digits w n a) × (highHalf (lanes w (a + 2 ^ 64 * b)) ≡ digits w n b)
-parts w n half whole a b ha = rw (lanes-halves w n half whole a b ha) (halves-of (digits w n a) (digits w n b) (length-digits w n a ∙ sym (length-digits w n b)))
+parts w n half whole a b ha = rw (lanes-halves w n half whole a b ha)
+    (halves-of (digits w n a) (digits w n b) (length-digits w n a ∙ sym (length-digits w n b)))
 
 -- what widening makes of the bits k is the extended half of a vector whose lanes k has
-pub extend-half : (w n : ℕ) → 64 / w ≡ n → (half : List ℕ → List ℕ) (sx : ℕ → ℕ → ℕ → ℕ) (x k : ℕ) → half (lanes w x) ≡ digits w n k → widen sx w k ≡ extend half sx w x
+pub extend-half : (w n : ℕ) → 64 / w ≡ n → (half : List ℕ → List ℕ) (sx : ℕ → ℕ → ℕ → ℕ) (x k : ℕ) → half (lanes w x) ≡ digits w n k → widen sx w k
+    ≡ extend half sx w x
 unfolding widen extend
 extend-half w n count half sx x k e = ap (λ (ds : List ℕ). joined (2 * w) (map (sx w (2 * w)) ds)) (ap (λ (m : ℕ). digits w m k) count ∙ sym e)
 
@@ -49,7 +51,8 @@ below-map : (b c : ℕ) (f : ℕ → ℕ) → ((d : ℕ) → d < b → f d < c) 
 below-map b c f lt [] u = tt
 below-map b c f lt (d ∷ ds) u = (lt d (u .0), below-map b c f lt ds (u .1))
 
-module _ (w n : ℕ) (sx : ℕ → ℕ → ℕ → ℕ) (lt : (a : ℕ) → a < 2 ^ w → sx w (2 * w) a < 2 ^ (2 * w)) (whole : 2 * w * (128 / (2 * w)) ≡ 128) (count : n ≡ 128 / (2 * w)) where
+module _ (w n : ℕ) (sx : ℕ → ℕ → ℕ → ℕ) (lt : (a : ℕ) → a < 2 ^ w → sx w (2 * w) a < 2 ^ (2 * w)) (whole : 2 * w * (128 / (2 * w)) ≡ 128)
+    (count : n ≡ 128 / (2 * w)) where
   -- the lanes of an extended vector are the extended lanes
   extended : (half : List ℕ → List ℕ) (x k : ℕ) → half (lanes w x) ≡ digits w n k → lanes (2 * w) (extend half sx w x) ≡ map (sx w (2 * w)) (half (lanes w x))
   unfolding extend
@@ -120,7 +123,8 @@ pub widened : (w : ℕ) (sx : ℕ → ℕ → ℕ → ℕ) (x : ℕ) {ds : List 
 unfolding widen
 widened w sx x e = ap (λ (ds : List ℕ). joined (2 * w) (map (sx w (2 * w)) ds)) e
 
-pub widened-32 : (sx : ℕ → ℕ → ℕ → ℕ) (x : ℕ) → x < 2 ^ 64 → {lo hi : ℕ} → lo ≡ sx 32 64 (x % 2 ^ 32) → hi ≡ sx 32 64 (x / 2 ^ 32) → lo + 2 ^ 64 * hi ≡ widen sx 32 x
+pub widened-32 : (sx : ℕ → ℕ → ℕ → ℕ) (x : ℕ) → x < 2 ^ 64 → {lo hi : ℕ} → lo ≡ sx 32 64 (x % 2 ^ 32) → hi ≡ sx 32 64 (x / 2 ^ 32) → lo + 2 ^ 64 * hi
+    ≡ widen sx 32 x
 unfolding widen
 widened-32 sx x h el eh =
     ap₂ (λ (l h : ℕ). l + 2 ^ 64 * h) el

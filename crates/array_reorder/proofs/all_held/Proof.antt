@@ -32,7 +32,11 @@ loop-less : tie.Need-loop-less Inv-loop μ-loop
 loop-less c = search needs
 
 loop-again : tie.Need-loop-again Inv-loop μ-loop
-loop-again c = (search needs, fill-turn 64 (λ y. imin-u 8 y 16) _ (c .before .before .before .args .t1) refl (search needs) (search needs) (c .before .before .loop .inv .1) (c .held .ensures))
+loop-again c = (
+  search needs,
+  fill-turn 64 (λ y. imin-u 8 y 16) _ (c .before .before .before .args .t1) refl (search needs) (search needs)
+      (c .before .before .loop .inv .1) (c .held .ensures),
+)
 
 returns : tie.Need-returns Inv-loop μ-loop
 returns c = filled 64 (λ y. imin-u 8 y 16) _ (c .before .before .args .t1) refl (search needs) (c .before .loop .i) (search needs) (c .before .loop .inv .1)

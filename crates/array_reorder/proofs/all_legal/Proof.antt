@@ -22,7 +22,8 @@ array-read-if1 : tie.Need-array-read-if1 Inv-loop μ-loop
 array-read-if1 c = search needs
 
 returns : tie.Need-returns Inv-loop μ-loop
-returns c = sym (index-stops (c .before .before .before .args .t1) (c .before .before .loop .i) (search needs) (c .if1 .taken)) ∙ c .before .before .loop .inv .1
+returns c = sym (index-stops (c .before .before .before .args .t1) (c .before .before .loop .i) (search needs) (c .if1 .taken))
+    ∙ c .before .before .loop .inv .1
 
 add-i : tie.Need-add-i Inv-loop μ-loop
 add-i c = search needs
@@ -31,7 +32,11 @@ loop-less : tie.Need-loop-less Inv-loop μ-loop
 loop-less c = search needs
 
 loop-again : tie.Need-loop-again Inv-loop μ-loop
-loop-again c = (search needs, sym (index-passes (c .before .before .before .args .t1) (c .before .before .loop .i) (search needs) (c .if1 .left)) ∙ c .before .before .loop .inv .1)
+loop-again c = (
+  search needs,
+  sym (index-passes (c .before .before .before .args .t1) (c .before .before .loop .i) (search needs) (c .if1 .left))
+      ∙ c .before .before .loop .inv .1,
+)
 
 returns-2 : tie.Need-returns-2 Inv-loop μ-loop
 returns-2 c = all-pass (c .before .before .args .t1) (c .before .loop .i) (le-trans (le-of-eq (search needs)) (c .loop-test .left)) (c .before .loop .inv .1)

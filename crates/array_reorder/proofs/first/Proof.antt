@@ -34,7 +34,8 @@ loop-again : tie.Need-loop-again Inv-loop μ-loop
 loop-again c = (search needs, copy-turn 16 _ (c .before .before .args .t1) (search needs) (search needs) (search needs) (c .before .loop .inv .1))
 
 returns : tie.Need-returns Inv-loop μ-loop
-returns c = copy-done 16 _ (c .before .before .args .t1) (search needs) (search needs) (c .before .loop .i) (search needs) (c .before .loop .inv .1) ∙ append-nil _
+returns c = copy-done 16 _ (c .before .before .args .t1) (search needs) (search needs) (c .before .loop .i) (search needs) (c .before .loop .inv .1)
+    ∙ append-nil _
 
 pub first-spec : {M : Type 1} → statement M
 first-spec = tie.close (tie.spec Inv-loop μ-loop loop-holds array-read-out array-write-out add-i loop-less loop-again returns)

@@ -35,10 +35,15 @@ loop-less : tie.Need-loop-less Inv-loop μ-loop
 loop-less c = search needs
 
 loop-again : tie.Need-loop-again Inv-loop μ-loop
-loop-again c = (search needs, fill-turn 16 (λ y. getD (c .before .before .args .t1) (y % 32) 0) _ (c .before .before .args .t2) refl (search needs) (search needs) (c .before .loop .inv .1) refl)
+loop-again c = (
+  search needs,
+  fill-turn 16 (λ y. getD (c .before .before .args .t1) (y % 32) 0) _ (c .before .before .args .t2) refl (search needs)
+      (search needs) (c .before .loop .inv .1) refl,
+)
 
 returns : tie.Need-returns Inv-loop μ-loop
-returns c = filled 16 (λ y. getD (c .before .before .args .t1) (y % 32) 0) _ (c .before .before .args .t2) refl (search needs) (c .before .loop .i) (search needs) (c .before .loop .inv .1)
+returns c = filled 16 (λ y. getD (c .before .before .args .t1) (y % 32) 0) _ (c .before .before .args .t2) refl (search needs) (c .before .loop .i)
+    (search needs) (c .before .loop .inv .1)
 
 pub picked-spec : {M : Type 1} → statement M
 picked-spec = tie.close (tie.spec Inv-loop μ-loop loop-holds array-read-j cast-j array-read-out array-write-out add-i loop-less loop-again returns)

@@ -35,8 +35,12 @@ loop-less c = search needs
 
 loop-again : tie.Need-loop-again Inv-loop μ-loop
 loop-again c =
-    let long : length (c .before .before .args .t) ≡ 32 = search needs in
-    (search needs, rw (add-one, c .before .loop .inv .1) (paste-suc (c .before .before .args .t) (c .before .before .args .at) (c .before .before .args .t3) (c .before .loop .i) 0 (omega arith) (search needs)))
+    let long : length (c .before .before .args .t) ≡ 32 = search needs in (
+      search needs,
+      rw (add-one, c .before .loop .inv .1)
+          (paste-suc (c .before .before .args .t) (c .before .before .args .at) (c .before .before .args .t3) (c .before .loop .i) 0 (omega arith)
+          (search needs)),
+    )
 
 returns : tie.Need-returns Inv-loop μ-loop
 returns c =

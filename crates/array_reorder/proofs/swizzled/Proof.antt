@@ -25,7 +25,8 @@ returns : tie.Need-returns
 returns c =
     c .picked .ensures
     ∙ ap₂ (λ (t s : List ℕ). map (λ i. getD t (i % 32) 0) s) (c .before .before .before .beside .ensures)
-    (c .before .first .ensures ∙ ap (take 16) (c .before .before .all-held .ensures) ∙ take-map (λ i. imin-u 8 i 16) 16 (c .before .before .before .before .args .s))
+    (c .before .first .ensures ∙ ap (take 16) (c .before .before .all-held .ensures)
+    ∙ take-map (λ i. imin-u 8 i 16) 16 (c .before .before .before .before .args .s))
     ∙ held-indices (c .before .before .before .before .args .t) (search needs) (take 16 (c .before .before .before .before .args .s))
 
 pub swizzled-spec : {M : Type 1} → statement M

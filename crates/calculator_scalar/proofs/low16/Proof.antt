@@ -16,7 +16,8 @@ use Rattle.calculator_scalar.proofs.low16.Tie as tie
 returns : tie.Need-returns
 returns c =
     let f : Fits w16 (c .before .unsigned32 .result % 65536) = omega arith in
-    ap (modulo 16) (kept w16 (c .signed16 .ok) (c .signed16 .ensures)) ∙ modulo-signed w16 _ f ∙ rw (← toZ-ofZ (c .before .before .fits .z), ← c .before .unsigned32 .ensures)
+    ap (modulo 16) (kept w16 (c .signed16 .ok) (c .signed16 .ensures)) ∙ modulo-signed w16 _ f
+    ∙ rw (← toZ-ofZ (c .before .before .fits .z), ← c .before .unsigned32 .ensures)
 
 pub low16-spec : {M : Type 1} → statement M
 low16-spec = tie.close (tie.spec nothing (λ c. search needs) nothing returns)

@@ -16,7 +16,8 @@ use Rattle.calculator_scalar.proofs.low8.Tie as tie
 returns : tie.Need-returns
 returns c =
     let f : Fits w8 (c .before .unsigned32 .result % 256) = omega arith in
-    ap (modulo 8) (kept w8 (c .signed8 .ok) (c .signed8 .ensures)) ∙ modulo-signed w8 _ f ∙ rw (← toZ-ofZ (c .before .before .fits .z), ← c .before .unsigned32 .ensures)
+    ap (modulo 8) (kept w8 (c .signed8 .ok) (c .signed8 .ensures)) ∙ modulo-signed w8 _ f
+    ∙ rw (← toZ-ofZ (c .before .before .fits .z), ← c .before .unsigned32 .ensures)
 
 pub low8-spec : {M : Type 1} → statement M
 low8-spec = tie.close (tie.spec nothing (λ c. search needs) nothing returns)

@@ -20,7 +20,12 @@ returns-3 c n =
 returns-4 : tie.Need-returns-4
 returns-4 c n =
     let a = c .before .before .before .before .before .before .before .before .args in
-    rw (stored (a .shape) (instruction (a .op)) (held (a .w .now) n (a .scalar)) (a .s .now) (c .before .before .before .before .before .match .keys4), ← c .before .before .before .make .ensures, ← c .before .byte3 .ensures)
+    rw (
+      stored (a .shape) (instruction (a .op)) (held (a .w .now) n (a .scalar)) (a .s .now)
+          (c .before .before .before .before .before .match .keys4),
+      ← c .before .before .before .make .ensures,
+      ← c .before .byte3 .ensures,
+    )
     (another-register n (a .scalar) (c .put .ensures))
 
 pub perform-spec : {M : Type 1} → statement M

@@ -16,7 +16,8 @@ returns c =
     let a = d .before .before .before .args in
     let t = c .before .before .if1 .taken in
     let e : k .number .last .0 ≡ numbers (d .decide .result) (a .place) (a .writers .now) (a .s .now) = rw t at (k .number .ensures) in (
-      passes (a .place) (held (a .w .now) (a .writers .now) (a .scalar)) (a .s .now) _ _ _ (d .before .operation .ensures) (d .decide .ensures) (rw (j .before .kind .ensures) at (j .judge .ensures)) _ t (c .perform .ensures (k .number .last .0) ∙ rw e),
+      passes (a .place) (held (a .w .now) (a .writers .now) (a .scalar)) (a .s .now) _ _ _ (d .before .operation .ensures) (d .decide .ensures)
+          (rw (j .before .kind .ensures) at (j .judge .ensures)) _ t (c .perform .ensures (k .number .last .0) ∙ rw e),
       λ n. absurd (n t),
     )
 
@@ -26,7 +27,8 @@ returns-2 c =
     let j = k .before .before in
     let d = j .before .before in
     let a = d .before .before .before .args in (
-      stops (a .place) (held (a .w .now) (a .writers .now) (a .scalar)) (a .s .now) _ _ _ (d .before .operation .ensures) (d .decide .ensures) (rw (j .before .kind .ensures) at (j .judge .ensures)) _ (c .if1 .left),
+      stops (a .place) (held (a .w .now) (a .writers .now) (a .scalar)) (a .s .now) _ _ _ (d .before .operation .ensures) (d .decide .ensures)
+          (rw (j .before .kind .ensures) at (j .judge .ensures)) _ (c .if1 .left),
       λ n. (refl, k .number .ensures ∙ rw (ne-eqb _ _ (c .if1 .left)), refl),
     )
 

@@ -50,7 +50,8 @@ returns-2 c =
           let most = left .ensures (omega (arith, kept .stands .all, kept .stands .few)) in
           record {
             stands =
-                fed L X _ _ _ (kept .stands) (given .piece .now) (used .result) (omega arith) (omega arith) (omega (arith, most)) (c .before .before .put .ensures);
+                fed L X _ _ _ (kept .stands) (given .piece .now) (used .result) (omega arith) (omega arith) (omega (arith, most))
+                (c .before .before .put .ensures);
             same = kept .same;
             on = λ none wide few some.
                 ⊎-elim (λ fits. omega (arith, most, kept .stands .all))

@@ -64,7 +64,11 @@ returns-5 : tie.Need-returns-5
 returns-5 c = λ X s made.
     let given = c .before .before .before .before .before .before .before .before .before .before .before .args in
     let size = length-take-le (given .scan .filled) (given .window .now) (omega arith) in
-    absurd (omega (arith, head-of (mark (given .marker)) (given .tolerance) (given .frame) _ _ _ _ _ _ (heard (c .before) (s .frame) (omega (arith, s .all, s .reached)) made) .high))
+    absurd (omega (
+      arith,
+      head-of (mark (given .marker)) (given .tolerance) (given .frame) _ _ _ _ _ _
+          (heard (c .before) (s .frame) (omega (arith, s .all, s .reached)) made) .high,
+    ))
 
 mul-t22 : tie.Need-mul-t22
 mul-t22 c = search needs
@@ -82,7 +86,8 @@ returns-6 : tie.Need-returns-6
 returns-6 c = λ X s made.
     let given = c .before .before .before .before .before .before .before .before .before .before .before .args in
     let size = length-take-le (given .scan .filled) (given .window .now) (omega arith) in
-    told-met (given .marker) (given .tolerance) (given .frame) X (given .window .now) (given .scan) s _ _ _ _ (omega arith) (heard (c .before) (s .frame) (omega (arith, s .all, s .reached)) made)
+    told-met (given .marker) (given .tolerance) (given .frame) X (given .window .now) (given .scan) s _ _ _ _ (omega arith)
+    (heard (c .before) (s .frame) (omega (arith, s .all, s .reached)) made)
 
 returns-7 : tie.Need-returns-7
 returns-7 c = λ X s made.

@@ -26,7 +26,8 @@ returns : tie.Need-returns
 returns c = (
   c .picked .ensures
       ∙ ap₂ (λ (t is : List ℕ). map (λ i. getD t (i % 32) 0) is)
-      (c .before .before .beside .ensures ∙ ap (λ (p : List ℕ). c .before .before .before .before .args .current ++ p) (c .before .before .before .partner-of .ensures)) (c .before .indices-of .ensures),
+      (c .before .before .beside .ensures ∙ ap (λ (p : List ℕ). c .before .before .before .before .args .current ++ p)
+      (c .before .before .before .partner-of .ensures)) (c .before .indices-of .ensures),
   search needs,
 )
 

@@ -11,7 +11,8 @@ use Rattle.chain_vector.proofs.apply.Statement.{statement}
 use Rattle.chain_vector.proofs.apply.Tie as tie
 
 abbrev Inv-loop : tie.InvT-loop
-Inv-loop links a b refused current₀ k₀ k-end current k = (k ≤ k-end) × ((k-end ≡ length links) × (chained (drop k links) (number a) (number b) (number current) ≡ chained links (number a) (number b) (number a)))
+Inv-loop links a b refused current₀ k₀ k-end current k = (k ≤ k-end) ×
+    ((k-end ≡ length links) × (chained (drop k links) (number a) (number b) (number current) ≡ chained links (number a) (number b) (number a)))
 
 abbrev μ-loop : tie.MeasureT-loop
 μ-loop links a b refused current₀ k₀ k-end current k = k-end - k
@@ -44,13 +45,20 @@ loop-again : tie.Need-loop-again Inv-loop μ-loop
 loop-again c =
     let loop = c .before .before .before .loop in
     let links = c .before .before .before .before .before .before .args .links .now in
-    let legal = unrefused links (sym (c .before .before .before .before .before .judge .ensures) ∙ c .before .before .before .before .if1 .left) in
-    (search needs, (refl, one-link links _ _ (loop .k) (number (loop .current)) (number (c .linked .result)) _ (search needs) legal (c .linked .ensures) ∙ loop .inv .1 .1))
+    let legal = unrefused links (sym (c .before .before .before .before .before .judge .ensures) ∙ c .before .before .before .before .if1 .left) in (
+      search needs,
+      (
+        refl,
+        one-link links _ _ (loop .k) (number (loop .current)) (number (c .linked .result)) _ (search needs) legal (c .linked .ensures)
+            ∙ loop .inv .1 .1,
+      ),
+    )
 
 returns-2 : tie.Need-returns-2 Inv-loop μ-loop
 returns-2 c =
     let loop = c .before .loop in
-    all-links (c .before .before .before .before .args .links .now) _ _ (loop .k) (number (loop .current)) (search needs) (sym (c .before .before .before .judge .ensures) ∙ c .before .before .if1 .left) (loop .inv .1 .1)
+    all-links (c .before .before .before .before .args .links .now) _ _ (loop .k) (number (loop .current)) (search needs)
+    (sym (c .before .before .before .judge .ensures) ∙ c .before .before .if1 .left) (loop .inv .1 .1)
 
 pub apply-spec : {M : Type 1} → statement M
 apply-spec =

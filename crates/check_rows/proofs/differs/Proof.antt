@@ -30,13 +30,25 @@ array-borrow-prefix-first : tie.Need-array-borrow-prefix-first
 array-borrow-prefix-first c = search needs
 
 slice-aggregate-over-rows : tie.Need-slice-aggregate-over-rows
-slice-aggregate-over-rows c = omega (arith, length-take (c .before .before .before .before .before .at-most-80 .result) (c .before .before .row .result), c .before .before .row .ok, c .before .before .before .before .before .at-most-80 .ensures)
+slice-aggregate-over-rows c = omega (
+  arith,
+  length-take (c .before .before .before .before .before .at-most-80 .result)
+      (c .before .before .row .result),
+  c .before .before .row .ok,
+  c .before .before .before .before .before .at-most-80 .ensures,
+)
 
 array-share-prefix-second : tie.Need-array-share-prefix-second
 array-share-prefix-second c = search needs
 
 slice-aggregate-over-rows-2 : tie.Need-slice-aggregate-over-rows-2
-slice-aggregate-over-rows-2 c = omega (arith, length-take (c .before .before .before .before .at-most-802 .result) (c .before .before .row2 .result), c .before .before .row2 .ok, c .before .before .before .before .at-most-802 .ensures)
+slice-aggregate-over-rows-2 c = omega (
+  arith,
+  length-take (c .before .before .before .before .at-most-802 .result)
+      (c .before .before .row2 .result),
+  c .before .before .row2 .ok,
+  c .before .before .before .before .at-most-802 .ensures,
+)
 
 over-rows-requires : tie.Need-over-rows-requires
 over-rows-requires c κs = search needs

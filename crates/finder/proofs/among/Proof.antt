@@ -13,7 +13,8 @@ use Rattle.finder.proofs.among.Tie as tie
 abbrev Inv-loop : tie.InvT-loop
 Inv-loop buffer at skip count marker tolerance frame here end later start k₀ k =
     (k ≤ count)
-    × (first-from (bits buffer) (mark marker) tolerance frame (count - skip) (8 * at + skip) ≡ first-from (bits buffer) (mark marker) tolerance frame (count - k) (8 * at + k))
+    × (first-from (bits buffer) (mark marker) tolerance frame (count - skip) (8 * at + skip)
+    ≡ first-from (bits buffer) (mark marker) tolerance frame (count - k) (8 * at + k))
 
 abbrev μ-loop : tie.MeasureT-loop
 μ-loop buffer at skip count marker tolerance frame here end later start k₀ k = count - k
@@ -94,7 +95,8 @@ first c =
 second : (c : tie.After-apart Inv-loop μ-loop) {d : ℕ}
     → let given = c .before .before .before .before .before .before .args in
     let end = (8 * given .at + given .count + given .frame + 30) / 8 in
-    d ≡ distance (window (binary 64 (c .before .before .before .word-at2 .result)) (8 * given .at + given .frame + 56 - 8 * end + c .before .before .loop .k)) (mark (given .marker))
+    d ≡ distance (window (binary 64 (c .before .before .before .word-at2 .result))
+    (8 * given .at + given .frame + 56 - 8 * end + c .before .before .loop .k)) (mark (given .marker))
     → d ≡ distance (window (bits (given .buffer .now)) (8 * given .at + c .before .before .loop .k + given .frame)) (mark (given .marker))
 second c e =
     let given = c .before .before .before .before .before .before .args in
@@ -110,7 +112,9 @@ returns c =
     let loop = c .before .before .before .before .before .before .before .loop in
     let apart = c .before .before .before .before .before in
     let told = c .enum-told2 .given .1 in
-    let here = c .before .before .judged .ensures ∙ one (bits (given .buffer .now)) (mark (given .marker)) (given .tolerance) (given .frame) (8 * given .at + loop .k) (first apart) (second apart (c .before .before .before .apart2 .ensures)) in
+    let here = c .before .before .judged .ensures
+    ∙ one (bits (given .buffer .now)) (mark (given .marker)) (given .tolerance) (given .frame) (8 * given .at + loop .k) (first apart)
+    (second apart (c .before .before .before .apart2 .ensures)) in
     rw told (among-the-first _ _ _ _ 1 (given .count - loop .k) (8 * given .at + loop .k) (omega arith) (rw told at here) ∙ sym (loop .inv .1))
 
 add-k : tie.Need-add-k Inv-loop μ-loop
@@ -128,8 +132,12 @@ loop-again c =
     let on = passed _ _ _ _ 1 (given .count - k) (8 * given .at + k) (omega arith) left next (c .before .before .before .loop .inv .1) in (
       search needs,
       ⊎-elim
-          (λ w. on (w .4 .given .0 .0) (rw (w .4 .given .1) at (w .2 .ensures ∙ one (bits (given .buffer .now)) (mark (given .marker)) (given .tolerance) (given .frame) (8 * given .at + k) (first (c .before)) (second (c .before) (w .1 .ensures)))))
-          (λ w. on 11 (sym (none _ _ _ _ 1 (8 * given .at + k) (λ j h. let here : 8 * given .at + k + j ≡ 8 * given .at + k = omega arith in rw here (far _ _ _ _ (8 * given .at + k) (first (c .before)) (omega (arith, w))))))) (c .if1 .came),
+          (λ w. on (w .4 .given .0 .0) (rw (w .4 .given .1) at
+          (w .2 .ensures ∙ one (bits (given .buffer .now)) (mark (given .marker)) (given .tolerance) (given .frame) (8 * given .at + k)
+          (first (c .before)) (second (c .before) (w .1 .ensures)))))
+          (λ w. on 11 (sym (none _ _ _ _ 1 (8 * given .at + k)
+          (λ j h. let here : 8 * given .at + k + j ≡ 8 * given .at + k = omega arith in rw here
+          (far _ _ _ _ (8 * given .at + k) (first (c .before)) (omega (arith, w))))))) (c .if1 .came),
     )
 
 returns-2 : tie.Need-returns-2 Inv-loop μ-loop

@@ -18,7 +18,8 @@ over : (bs : List ℕ) (m t L from to n : ℕ) {a : Answer} {n' : ℕ} → from 
     → a ≡ first-from (bits bs) (mark m) t L n (8 * from) → a ≡ first-from (bits bs) (mark m) t L n' (8 * to)
 over bs m t L from to n h room left away reached =
     passed (bits bs) (mark m) t L (8 * to - 8 * from) n (8 * from) (omega arith) left (omega arith) reached 11
-    (sym (none (bits bs) (mark m) t L (8 * to - 8 * from) (8 * from) (λ k hk. far (bits bs) (mark m) t L (8 * from + k) refl (away (8 * from + k) (omega arith) (omega arith)))))
+    (sym (none (bits bs) (mark m) t L (8 * to - 8 * from) (8 * from)
+    (λ k hk. far (bits bs) (mark m) t L (8 * from + k) refl (away (8 * from + k) (omega arith) (omega arith)))))
 
 not-past : {bs : List ℕ} {m t from end r : ℕ} → Next bs m t from end r → from ≤ end → r ≤ end
 not-past next h = ⊎-elim (λ same. omega arith) (λ inside. inside .0) (next .inside)
@@ -27,7 +28,8 @@ abbrev Inv-loop : tie.InvT-loop
 Inv-loop buffer from count table marker tolerance frame end at₀ at =
     Columns marker tolerance table
     → (from ≤ at) × (at ≤ end)
-    × (first-from (bits buffer) (mark marker) tolerance frame count (8 * from) ≡ first-from (bits buffer) (mark marker) tolerance frame (8 * from + count - 8 * at) (8 * at))
+    × (first-from (bits buffer) (mark marker) tolerance frame count (8 * from)
+    ≡ first-from (bits buffer) (mark marker) tolerance frame (8 * from + count - 8 * at) (8 * at))
 
 abbrev μ-loop : tie.MeasureT-loop
 μ-loop buffer from count table marker tolerance frame end at₀ at = end - at
@@ -74,7 +76,8 @@ next-requires-2 c κs = search needs
 following : (c : tie.After-next2 Inv-loop μ-loop)
     → let given = c .before .before .before .before .before .before .before .before .args in
     Columns (given .marker) (given .tolerance) (given .table .now)
-    → Next (given .buffer .now) (given .marker) (given .tolerance) (c .before .before .before .before .before .loop .at + 1) (given .from + given .count / 8) (c .next2 .result)
+    → Next (given .buffer .now) (given .marker) (given .tolerance) (c .before .before .before .before .before .loop .at + 1)
+    (given .from + given .count / 8) (c .next2 .result)
 following c made =
     let given = c .before .before .before .before .before .before .before .before .args in
     c .next2 .ensures (given .marker) (given .tolerance) (omega arith) made
@@ -95,11 +98,13 @@ loop-again c = λ made.
     let next = following (c .before) made in
     let to = not-past next (omega arith) in
     let one : 8 * loop .at + 8 ≡ 8 * (loop .at + 1) = omega arith in
-    let behind = passed _ _ _ _ 8 (8 * given .from + given .count - 8 * loop .at) (8 * loop .at) (omega (arith, so-far .0, so-far .1)) refl one (so-far .2) (told .0 .0)
+    let behind = passed _ _ _ _ 8 (8 * given .from + given .count - 8 * loop .at) (8 * loop .at) (omega (arith, so-far .0, so-far .1)) refl one (so-far .2)
+    (told .0 .0)
     (rw (add-zero (8 * loop .at), told .1) at (c .before .before .before .before .among .ensures)) in (
       omega (arith, next .reached, so-far .0),
       to,
-      over _ _ _ _ (loop .at + 1) (c .before .next2 .result) (8 * given .from + given .count - 8 * loop .at - 8) (next .reached) (omega (arith, so-far .0)) (omega (arith, so-far .0, next .reached)) (next .far) behind,
+      over _ _ _ _ (loop .at + 1) (c .before .next2 .result) (8 * given .from + given .count - 8 * loop .at - 8) (next .reached) (omega (arith, so-far .0))
+          (omega (arith, so-far .0, next .reached)) (next .far) behind,
     )
 
 among-requires-2 : tie.Need-among-requires-2 Inv-loop μ-loop

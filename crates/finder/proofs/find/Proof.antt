@@ -16,7 +16,8 @@ returns c =
     let given = c .before .before .before .args in
     find-refused (given .buffer .now) (given .marker) (given .tolerance) (given .length) (c .before .refusal .ensures) (λ e. omega arith)
 
-none : (c : tie.Else1) → refusal (c .before .before .before .args .buffer .now) (c .before .before .before .args .tolerance) (c .before .before .before .args .length) ≡ 0
+none : (c : tie.Else1) → refusal (c .before .before .before .args .buffer .now) (c .before .before .before .args .tolerance)
+    (c .before .before .before .args .length) ≡ 0
 none c = sym (c .before .refusal .ensures) ∙ (omega arith)
 
 search-requires : tie.Need-search-requires
@@ -28,7 +29,8 @@ search-requires c κs =
 returns-2 : tie.Need-returns-2
 returns-2 c =
     let given = c .before .before .before .before .args in
-    rw (← length-bits (given .buffer .now)) at (c .search .ensures) ∙ sym (find-searched (given .buffer .now) (given .marker) (given .tolerance) (given .length) (none (c .before)))
+    rw (← length-bits (given .buffer .now)) at (c .search .ensures)
+    ∙ sym (find-searched (given .buffer .now) (given .marker) (given .tolerance) (given .length) (none (c .before)))
 
 pub find-spec : {M : Type 1} → statement M
 find-spec = tie.close (tie.spec refusal-requires returns search-requires returns-2)

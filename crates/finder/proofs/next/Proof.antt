@@ -100,7 +100,8 @@ returns-7 c = λ a b d made.
     let all = 8 * length (given .buffer .now) - (given .length + 31) - given .from in
     let left = left-after (8 * length (given .buffer .now)) (given .length) (given .from) in
     c .by-columns .ensures made
-    ∙ sym (passed _ _ _ _ (8 - given .from % 8) all (given .from) (enough (8 * length (given .buffer .now)) (given .length) (given .from) room) left place refl (told .0 .0)
+    ∙ sym (passed _ _ _ _ (8 - given .from % 8) all (given .from)
+    (enough (8 * length (given .buffer .now)) (given .length) (given .from) room) left place refl (told .0 .0)
     (rw (in-its-byte (given .from), told .1) at (c .before .before .before .among2 .ensures)))
 
 pub next-spec : {M : Type 1} → statement M

@@ -16,7 +16,8 @@ word-at-requires c κs = search needs
 apart-requires : tie.Need-apart-requires
 apart-requires c κs = search needs
 
-first : (c : tie.After-apart) → let given = c .before .before .before .args in c .apart .result ≡ distance (window (bits (given .buffer .now)) 0) (mark (given .marker))
+first : (c : tie.After-apart) → let given = c .before .before .before .args in c .apart .result
+    ≡ distance (window (bits (given .buffer .now)) 0) (mark (given .marker))
 first c =
     let given = c .before .before .before .args in
     let word = c .before .word-at in
@@ -26,7 +27,8 @@ returns : tie.Need-returns
 returns c =
     let given = c .before .before .before .before .args in
     sym (none (bits (given .buffer .now)) (mark (given .marker)) (given .tolerance) (given .frame) 1 0
-    (λ k h. let here : 0 + k ≡ 0 = omega arith in rw here (far (bits (given .buffer .now)) (mark (given .marker)) (given .tolerance) (given .frame) 0 (first (c .before)) (omega arith))))
+    (λ k h. let here : 0 + k ≡ 0 = omega arith in rw here
+    (far (bits (given .buffer .now)) (mark (given .marker)) (given .tolerance) (given .frame) 0 (first (c .before)) (omega arith))))
 
 sub-word-at : tie.Need-sub-word-at
 sub-word-at c = search needs
@@ -46,9 +48,11 @@ returns-2 c =
     let word = c .before .before .word-at2 in
     let last : 8 * (length (given .buffer .now) - 8) + 32 ≡ 0 + given .frame = omega arith in
     let second = c .before .apart2 .ensures
-    ∙ rw last at (distance-inside (given .buffer .now) (length (given .buffer .now) - 8) 32 (word .result) (given .marker) (omega arith) (omega arith) (word .ensures))
+    ∙ rw last at (distance-inside (given .buffer .now) (length (given .buffer .now) - 8) 32 (word .result) (given .marker) (omega arith) (omega arith)
+    (word .ensures))
     in
-    c .judged .ensures ∙ one (bits (given .buffer .now)) (mark (given .marker)) (given .tolerance) (given .frame) 0 (first (c .before .before .before .before)) second
+    c .judged .ensures ∙ one (bits (given .buffer .now)) (mark (given .marker)) (given .tolerance) (given .frame) 0
+    (first (c .before .before .before .before)) second
 
 pub only-spec : {M : Type 1} → statement M
 only-spec =

@@ -81,7 +81,8 @@ returns-4 c =
     let early = c .before .before .before .before .before .before .before .early .ensures in
     let place = at-a-byte _ words early (c .before .before .before .before .before .if2 .left) in
     c .by-columns .ensures (c .before .before .columns .ensures)
-    ∙ sym (passed _ _ _ _ words (suc (8 * length (given .buffer .now) - (given .frame + 32))) 0 (no-more _ (given .frame) words (omega arith) early) left place refl (told .0 .0)
+    ∙ sym (passed _ _ _ _ words (suc (8 * length (given .buffer .now) - (given .frame + 32))) 0
+    (no-more _ (given .frame) words (omega arith) early) left place refl (told .0 .0)
     (rw (told .1) at (c .before .before .before .before .before .before .by-words .ensures)))
 
 pub search-spec : {M : Type 1} → statement M

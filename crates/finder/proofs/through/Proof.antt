@@ -34,7 +34,8 @@ returns c =
     let loop = c .before .before .before .before .loop in
     let told = c .enum-told2 .given .1 in
     rw told
-    (among-the-first _ _ _ _ 16 (loop .left) (8 * loop .at) (omega arith) (rw (add-zero (8 * loop .at), told) at (c .before .before .among .ensures)) ∙ sym (loop .inv .1))
+    (among-the-first _ _ _ _ 16 (loop .left) (8 * loop .at) (omega arith) (rw (add-zero (8 * loop .at), told) at (c .before .before .among .ensures))
+    ∙ sym (loop .inv .1))
 
 add-at : tie.Need-add-at Inv-loop μ-loop
 add-at c = search needs
@@ -48,8 +49,11 @@ loop-less c = search needs
 loop-again : tie.Need-loop-again Inv-loop μ-loop
 loop-again c =
     let loop = c .before .before .before .before .loop in
-    let told = c .enum-told .given in
-    (omega arith, passed _ _ _ _ 16 (loop .left) (8 * loop .at) (omega arith) refl (omega arith) (loop .inv .1) (told .0 .0) (rw (add-zero (8 * loop .at), told .1) at (c .before .before .among .ensures)))
+    let told = c .enum-told .given in (
+      omega arith,
+      passed _ _ _ _ 16 (loop .left) (8 * loop .at) (omega arith) refl (omega arith) (loop .inv .1) (told .0 .0)
+          (rw (add-zero (8 * loop .at), told .1) at (c .before .before .among .ensures)),
+    )
 
 among-requires-2 : tie.Need-among-requires-2 Inv-loop μ-loop
 among-requires-2 c κs = search needs

@@ -42,11 +42,14 @@ counted-requires c κs = search needs
 -- the sum of both nibbles' counts
 value : (c : tie.After-counted Inv-loop2 μ-loop2 Inv-loop μ-loop) (l : ℕ) → l < 16
     → let given = c .before .before .before .before .before .before .args in
-    given .above + c .counted .result + getD (c .before .before .before .low-nibbles .result) l 0 ≡ entry (given .marker) (given .tolerance) (given .q) (16 * c .before .before .loop .h + l)
+    given .above + c .counted .result + getD (c .before .before .before .low-nibbles .result) l 0
+    ≡ entry (given .marker) (given .tolerance) (given .q) (16 * c .before .before .loop .h + l)
 value c l hl =
     let given = c .before .before .before .before .before .before .args in
-    entry-is (given .marker) (given .tolerance) (given .q) (c .before .before .loop .h) l (omega arith) hl (c .before .before .before .before .before .pattern .ensures)
-    (c .before .before .before .before .pattern2 .ensures) (c .before .before .before .before .before .before .pre .1 .0) (c .counted .ensures) (c .before .before .before .low-nibbles .ensures l hl)
+    entry-is (given .marker) (given .tolerance) (given .q) (c .before .before .loop .h) l (omega arith) hl
+    (c .before .before .before .before .before .pattern .ensures)
+    (c .before .before .before .before .pattern2 .ensures) (c .before .before .before .before .before .before .pre .1 .0) (c .counted .ensures)
+    (c .before .before .before .low-nibbles .ensures l hl)
 
 fits : (c : tie.After-counted Inv-loop2 μ-loop2 Inv-loop μ-loop) (l : ℕ) → l < 16
     → c .before .before .before .before .before .before .args .above + c .counted .result + getD (c .before .before .before .low-nibbles .result) l 0 < 2 ^ 64
@@ -97,7 +100,8 @@ loop2-again c =
     let h = c .before .before .before .before .loop .h in
     let loop = c .before .loop2 in
     let place = 256 * given .q + 16 * h + loop .l in
-    let right = value (c .before .before) (loop .l) (omega arith) ∙ sym (entry-at (given .marker) (given .tolerance) (given .q) (16 * h + loop .l) place (omega arith) (omega arith)) in
+    let right = value (c .before .before) (loop .l) (omega arith)
+    ∙ sym (entry-at (given .marker) (given .tolerance) (given .q) (16 * h + loop .l) place (omega arith) (omega arith)) in
     let made = set-more (λ j. entry (given .marker) (given .tolerance) (j / 256) (j % 256)) place (loop .table) (omega arith) right (loop .inv .1 .1) in
     (search needs, (length-set (loop .table) place _ ∙ loop .inv .1 .0, λ j hj. made j (omega arith)))
 

@@ -51,7 +51,8 @@ loop-again c =
     let row : 32 * loop .k + 32 ≡ 32 * (loop .k + 1) = omega arith in (
       search needs,
       λ room begun.
-          rw (place, row) at (c .row .ensures (given .buffer .now) (given .p / 8) room (c .before .before .before .before .before .before .spread .ensures (refl, refl, below-none _)) (rw place (loop .inv .1 room begun))),
+          rw (place, row) at (c .row .ensures (given .buffer .now) (given .p / 8) room
+          (c .before .before .before .before .before .before .spread .ensures (refl, refl, below-none _)) (rw place (loop .inv .1 room begun))),
     )
 
 returns-3 : tie.Need-returns-3 Inv-loop μ-loop

@@ -33,11 +33,19 @@ wide-requires c κs = search needs
 
 byte : (c : tie.After-wide Inv-loop μ-loop) → c .wide .result < 256
 byte c =
-    omega (arith, c .wide .ensures, c .before .before .before .before .shared-slice-known .given (c .before .before .before .before .before .args .at + c .before .before .before .loop .i))
+    omega (
+      arith,
+      c .wide .ensures,
+      c .before .before .before .before .shared-slice-known .given
+          (c .before .before .before .before .before .args .at + c .before .before .before .loop .i),
+    )
 
 add-word : tie.Need-add-word Inv-loop μ-loop
 add-word c =
-    record { fits = push-fits (c .before .before .before .loop .i) (c .before .before .before .loop .word) _ (omega arith) (c .before .before .before .loop .inv .1) (byte c) }
+    record {
+      fits = push-fits (c .before .before .before .loop .i) (c .before .before .before .loop .word) _ (omega arith)
+          (c .before .before .before .loop .inv .1) (byte c);
+    }
 
 add-i : tie.Need-add-i Inv-loop μ-loop
 add-i c = search needs

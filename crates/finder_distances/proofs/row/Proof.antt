@@ -17,7 +17,8 @@ use Rattle.finder_distances.proofs.row.Tie as tie
 abbrev Inv-loop : tie.InvT-loop
 Inv-loop heads nexts bit k marker away₀ skip shift j₀ away j =
     (j ≤ 32)
-    × ((bs : List ℕ) (byte : ℕ) → byte + 37 ≤ length bs → Spread bs byte heads nexts 33 → Laid bs (8 * byte + bit) marker away₀ (32 * k) → Laid bs (8 * byte + bit) marker away (32 * k + j))
+    × ((bs : List ℕ) (byte : ℕ) → byte + 37 ≤ length bs → Spread bs byte heads nexts 33 → Laid bs (8 * byte + bit) marker away₀ (32 * k)
+    → Laid bs (8 * byte + bit) marker away (32 * k + j))
 
 abbrev μ-loop : tie.MeasureT-loop
 μ-loop heads nexts bit k marker away₀ skip shift j₀ away j = 32 - j
@@ -90,12 +91,17 @@ loop-again c =
           c .apart .ensures
           ∙ ap (λ (x : ℕ). distance (binary 32 x) (mark (given .marker))) (c .before .seen .ensures
           ∙ ap (λ (n : ℕ). (getD (given .heads .now) (skip + loop .j) 0 * 256 + n) / 2 ^ (8 - shift) % 2 ^ 32) (here .1))
-          ∙ inside bs (byte + (skip + loop .j)) (getD (given .heads .now) (skip + loop .j) 0) shift (given .marker) (omega arith) (omega arith) (here .2) (here .0)
-          ∙ ap (λ (q : ℕ). distance (window (bits bs) q) (mark (given .marker))) (place ∙ ap (λ (q : ℕ). 8 * byte + given .bit + q) (sym (at-row (given .k) (loop .j) (omega arith))))
+          ∙ inside bs (byte + (skip + loop .j)) (getD (given .heads .now) (skip + loop .j) 0) shift (given .marker) (omega arith) (omega arith) (here .2)
+          (here .0)
+          ∙ ap (λ (q : ℕ). distance (window (bits bs) q) (mark (given .marker)))
+          (place ∙ ap (λ (q : ℕ). 8 * byte + given .bit + q) (sym (at-row (given .k) (loop .j) (omega arith))))
           in
           let before = loop .inv .1 bs byte room spread laid in
-          rw index
-          (simp length-set (before .0), set-more (λ i v. v ≡ distance (window (bits bs) (8 * byte + given .bit + after i)) (mark (given .marker))) (loop .away) (32 * given .k + loop .j) (c .apart .result) (omega (arith, before .0)) value (before .1)),
+          rw index (
+            simp length-set (before .0),
+            set-more (λ i v. v ≡ distance (window (bits bs) (8 * byte + given .bit + after i)) (mark (given .marker)))
+                (loop .away) (32 * given .k + loop .j) (c .apart .result) (omega (arith, before .0)) value (before .1),
+          ),
     )
 
 returns : tie.Need-returns Inv-loop μ-loop

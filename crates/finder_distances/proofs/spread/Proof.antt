@@ -43,7 +43,13 @@ shared-slice-read-nexts : tie.Need-shared-slice-read-nexts Inv-loop μ-loop
 shared-slice-read-nexts c = search needs
 
 cast-nexts : tie.Need-cast-nexts Inv-loop μ-loop
-cast-nexts c = record { fits = omega (arith, c .shared-slice-known2 .given (c .before .before .before .before .before .args .byte + c .before .before .before .loop .j + 4)) }
+cast-nexts c = record {
+  fits = omega (
+    arith,
+    c .shared-slice-known2 .given
+        (c .before .before .before .before .before .args .byte + c .before .before .before .loop .j + 4),
+  );
+}
 
 mul-nexts : tie.Need-mul-nexts Inv-loop μ-loop
 mul-nexts c = search needs
@@ -67,8 +73,16 @@ loop-again c =
             simp length-set (before .0),
             simp length-set (before .1),
             below-more _ (loop .j)
-                (λ i h. rw (getD-set-other (loop .heads) (loop .j) i _ 0 (λ e. omega arith), getD-set-other (loop .nexts) (loop .j) i _ 0 (λ e. omega arith)) (before .2 i h))
-                (rw (getD-set-same (loop .heads) (loop .j) (c .before .four-at .result) 0 (omega (arith, before .0)), getD-set-same (loop .nexts) (loop .j) _ 0 (omega (arith, before .1)))
+                (λ i h. rw (
+                  getD-set-other (loop .heads) (loop .j) i _ 0 (λ e. omega arith),
+                  getD-set-other (loop .nexts) (loop .j) i _ 0
+                      (λ e. omega arith),
+                ) (before .2 i h))
+                (rw (
+                  getD-set-same (loop .heads) (loop .j) (c .before .four-at .result) 0 (omega (arith, before .0)),
+                  getD-set-same (loop .nexts)
+                      (loop .j) _ 0 (omega (arith, before .1)),
+                )
                 (c .before .four-at .ensures, refl, omega (arith, c .shared-slice-known2 .given (given .byte + loop .j + 4)))),
           ),
     )

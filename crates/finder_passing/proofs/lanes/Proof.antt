@@ -59,10 +59,12 @@ returns c =
     let sums = c .wrapping-add-u644 .ensures
     ∙ ap (λ (n : ℕ). wrapped n (c .before .looked-up5 .result)) (c .before .before .wrapping-add-u643 .ensures
     ∙ ap (λ (n : ℕ). wrapped n (c .before .before .before .looked-up4 .result)) (c .before .before .before .before .wrapping-add-u642 .ensures
-    ∙ ap (λ (n : ℕ). wrapped n (c .before .before .before .before .before .looked-up3 .result)) (c .before .before .before .before .before .before .wrapping-add-u64 .ensures))) in
+    ∙ ap (λ (n : ℕ). wrapped n (c .before .before .before .before .before .looked-up3 .result))
+    (c .before .before .before .before .before .before .wrapping-add-u64 .ensures))) in
     λ m t hm made.
     sums
-    ∙ sum-is (given .buffer .now) (given .table .now) (given .at) m t (c .before .before .before .before .before .before .before .before .before .before .pre) hm made (rw place at (a .0)) (b .0) (f .0) (d .0) (e .0)
+    ∙ sum-is (given .buffer .now) (given .table .now) (given .at) m t
+    (c .before .before .before .before .before .before .before .before .before .before .pre) hm made (rw place at (a .0)) (b .0) (f .0) (d .0) (e .0)
     (a .1 ∙ ap (λ (n : ℕ). getD (given .table .now) (0 + n) 0) place) (b .1) (f .1) (d .1) (e .1)
 
 pub lanes-spec : {M : Type 1} → statement M

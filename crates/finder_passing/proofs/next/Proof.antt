@@ -32,7 +32,8 @@ returns-2 c =
     record {
       reached = omega arith;
       inside = inr (omega arith, omega arith);
-      far = far-more (given .buffer .now) m t (given .from) (c .before .passed .result) (c .passed2 .result) (c .before .passed .ensures .1 .0 m t hm made) (one .1 .0 m t hm made);
+      far = far-more (given .buffer .now) m t (given .from) (c .before .passed .result) (c .passed2 .result) (c .before .passed .ensures .1 .0 m t hm made)
+          (one .1 .0 m t hm made);
       near = λ h k far. one .1 .1 m t hm made (omega arith) far;
     }
 

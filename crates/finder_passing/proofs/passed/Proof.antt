@@ -35,7 +35,8 @@ loop-again c =
     let at = c .before .before .loop .at in (
       search needs,
       passes .0 (c .if1 .taken),
-      λ m t hm made. far-more (given .buffer .now) m t (given .from) at (at + given .n) (c .before .before .loop .inv .2 m t hm made) (passes .1 .0 m t hm made (c .if1 .taken)),
+      λ m t hm made. far-more (given .buffer .now) m t (given .from) at (at + given .n) (c .before .before .loop .inv .2 m t hm made)
+          (passes .1 .0 m t hm made (c .if1 .taken)),
     )
 
 returns : tie.Need-returns Inv-loop μ-loop

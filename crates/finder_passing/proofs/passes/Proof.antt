@@ -15,7 +15,8 @@ use Rattle.finder_passing.proofs.passes.Tie as tie
 abbrev Inv-loop : tie.InvT-loop
 Inv-loop buffer at n last table tops₀ i₀ tops i =
     (i ≤ n) × (tops ≤ 0x8080808080808080)
-    × ((m t : ℕ) → m < 2 ^ 32 → Columns m t table → (tops ≡ 0x8080808080808080 → Far buffer m t at (at + i)) × (Far buffer m t at (at + i) → tops ≡ 0x8080808080808080))
+    × ((m t : ℕ) → m < 2 ^ 32 → Columns m t table
+    → (tops ≡ 0x8080808080808080 → Far buffer m t at (at + i)) × (Far buffer m t at (at + i) → tops ≡ 0x8080808080808080))
 
 abbrev μ-loop : tie.MeasureT-loop
 μ-loop buffer at n last table tops₀ i₀ tops i = n - i

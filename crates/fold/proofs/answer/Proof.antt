@@ -16,7 +16,13 @@ array-share-prefix-links : tie.Need-array-share-prefix-links
 array-share-prefix-links c = search needs
 
 slice-aggregate-fold : tie.Need-slice-aggregate-fold
-slice-aggregate-fold c = omega (arith, length-take (c .before .before .links-in .result) (c .before .links-of .result), c .before .links-of .ok, c .before .before .links-in .ensures .1)
+slice-aggregate-fold c = omega (
+  arith,
+  length-take (c .before .before .links-in .result)
+      (c .before .links-of .result),
+  c .before .links-of .ok,
+  c .before .before .links-in .ensures .1,
+)
 
 fold-requires : tie.Need-fold-requires
 fold-requires c κs = search needs

@@ -37,8 +37,14 @@ loop-less c = search needs
 
 loop-again : tie.Need-loop-again Inv-loop μ-loop
 loop-again c =
-    let at = c .before .before .loop in
-    (search needs, (simp length-set (at .inv .1 .0), links-more (at .links) (c .before .before .before .args .bytes) (c .link-at .result) (at .k) (search needs) (c .link-at .ensures) (at .inv .1 .1)))
+    let at = c .before .before .loop in (
+      search needs,
+      (
+        simp length-set (at .inv .1 .0),
+        links-more (at .links) (c .before .before .before .args .bytes) (c .link-at .result) (at .k)
+            (search needs) (c .link-at .ensures) (at .inv .1 .1),
+      ),
+    )
 
 returns : tie.Need-returns Inv-loop μ-loop
 returns c =

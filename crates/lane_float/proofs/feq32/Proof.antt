@@ -16,7 +16,8 @@ float-from-bits-result-2 : tie.Need-float-from-bits-result-2
 float-from-bits-result-2 c = apart binary32 (c .before .before .args .a) (c .before .before .args .b) (sym (c .before .is-nan32 .ensures) ∙ c .if1 .left) .1
 
 returns : tie.Need-returns
-returns c = unequal binary32 (c .before .before .args .a) (c .before .before .args .b) (c .before .before .fits .a .fits) (c .before .before .fits .b .fits) (sym (c .before .is-nan32 .ensures) ∙ c .if1 .taken)
+returns c = unequal binary32 (c .before .before .args .a) (c .before .before .args .b) (c .before .before .fits .a .fits) (c .before .before .fits .b .fits)
+    (sym (c .before .is-nan32 .ensures) ∙ c .if1 .taken)
 
 returns-2 : tie.Need-returns-2
 returns-2 c = search needs

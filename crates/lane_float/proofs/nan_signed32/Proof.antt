@@ -20,7 +20,8 @@ past m = pick (ltb 0x7F800000 m) refl
 
 returns : tie.Need-returns
 returns c =
-    ap (ltb 0xFF800000) (set-sign binary32 (c .args .bits) (c .fits .bits .fits)) ∙ past (c .args .bits % 0x80000000) ∙ sym (nanBits-above binary32 (c .args .bits))
+    ap (ltb 0xFF800000) (set-sign binary32 (c .args .bits) (c .fits .bits .fits)) ∙ past (c .args .bits % 0x80000000)
+    ∙ sym (nanBits-above binary32 (c .args .bits))
 
 pub nan-signed32-spec : {M : Type 1} → statement M
 nan-signed32-spec = tie.close (tie.spec returns)

@@ -27,7 +27,8 @@ clear64-requires c κs = search needs
 returns : tie.Need-returns
 returns c =
     c .clear64 .ensures
-    ∙ ap (λ (x : ℕ). eqb x 0) (or-shr (c .before .before .carry64 .result) (c .before .carry-signed64 .result) 63 ∙ ap₂ bitOr (c .before .before .carry64 .ensures) (c .before .carry-signed64 .ensures))
+    ∙ ap (λ (x : ℕ). eqb x 0) (or-shr (c .before .before .carry64 .result) (c .before .carry-signed64 .result) 63
+    ∙ ap₂ bitOr (c .before .before .carry64 .ensures) (c .before .carry-signed64 .ensures))
     ∙ neither (nanBits binary64 (c .before .before .before .args .a)) (nanBits binary64 (c .before .before .before .args .b))
 
 pub ordered64-spec : {M : Type 1} → statement M

@@ -16,10 +16,14 @@ by-top-requires : tie.Need-by-top-requires
 by-top-requires c κs = search needs
 
 add-result : tie.Need-add-result
-add-result c = record { fits = lt-of-le-of-lt (le-of-eq (ap₂ _+_ (c .before .pick32 .ensures) (c .by-top .ensures))) (lane-fits (c .before .before .args .x) binary32 (c .before .before .args .n)) }
+add-result c = record {
+  fits = lt-of-le-of-lt (le-of-eq (ap₂ _+_ (c .before .pick32 .ensures) (c .by-top .ensures)))
+      (lane-fits (c .before .before .args .x) binary32 (c .before .before .args .n));
+}
 
 returns : tie.Need-returns
-returns c = ap₂ _+_ (c .before .pick32 .ensures) (c .by-top .ensures ∙ ap (convert-u binary32) (c .before .before .pre .0)) ∙ signed-lane (c .before .before .args .x) binary32 (c .before .before .fits .x .fits)
+returns c = ap₂ _+_ (c .before .pick32 .ensures) (c .by-top .ensures ∙ ap (convert-u binary32) (c .before .before .pre .0))
+    ∙ signed-lane (c .before .before .args .x) binary32 (c .before .before .fits .x .fits)
 
 pub by-top-s-spec : {M : Type 1} → statement M
 by-top-s-spec = tie.close (tie.spec pick32-requires by-top-requires add-result returns)

@@ -59,8 +59,11 @@ array-read-by-top-s-3 c = search needs
 
 by-top-s-requires : tie.Need-by-top-s-requires Inv-loop μ-loop
 by-top-s-requires c κs = (
-  mapped (λ x. natAbs (signed 32 x)) (c .before .before .before .before .before .before .before .args .a) refl (c .before .before .before .before .before .places .ensures) (c .before .before .before .before .before .before .sizes .ensures) (c .before .before .before .before .places2 .ensures) (c .before .loop .i),
-  mapped top-digit (c .before .before .before .before .before .before .sizes .result) top-of-zero (c .before .before .before .before .places2 .ensures) (c .before .before .before .tops .ensures) (c .before .before .places3 .ensures) (c .before .loop .i),
+  mapped (λ x. natAbs (signed 32 x)) (c .before .before .before .before .before .before .before .args .a) refl
+      (c .before .before .before .before .before .places .ensures) (c .before .before .before .before .before .before .sizes .ensures)
+      (c .before .before .before .before .places2 .ensures) (c .before .loop .i),
+  mapped top-digit (c .before .before .before .before .before .before .sizes .result) top-of-zero (c .before .before .before .before .places2 .ensures)
+      (c .before .before .before .tops .ensures) (c .before .before .places3 .ensures) (c .before .loop .i),
 )
 
 mul-r : tie.Need-mul-r Inv-loop μ-loop
@@ -76,7 +79,12 @@ loop-less : tie.Need-loop-less Inv-loop μ-loop
 loop-less c = search needs
 
 loop-again : tie.Need-loop-again Inv-loop μ-loop
-loop-again c = (search needs, fill-turn 24 _ (replicate 24 0) _ refl (places-are (c .before .before .before .before .before .before .before .before .args .a) (search needs) (c .before .before .before .before .before .before .places .ensures)) (search needs) (c .before .before .loop .inv .1) (c .by-top-s .ensures))
+loop-again c = (
+  search needs,
+  fill-turn 24 _ (replicate 24 0) _ refl
+      (places-are (c .before .before .before .before .before .before .before .before .args .a) (search needs)
+      (c .before .before .before .before .before .before .places .ensures)) (search needs) (c .before .before .loop .inv .1) (c .by-top-s .ensures),
+)
 
 lanes-requires : tie.Need-lanes-requires Inv-loop μ-loop
 lanes-requires c κs = search needs
@@ -86,7 +94,8 @@ returns c =
     let a = c .before .before .before .before .before .before .before .before .args .a in
     let x = c .before .before .before .before .before .before .places .ensures in
     c .lanes .ensures
-    ∙ ap (take 4) (filled 24 _ (replicate 24 0) _ refl (places-are a (search needs) x) (c .before .before .loop .i) (search needs) (c .before .before .loop .inv .1) ∙ ap (map _) x)
+    ∙ ap (take 4) (filled 24 _ (replicate 24 0) _ refl (places-are a (search needs) x) (c .before .before .loop .i) (search needs)
+    (c .before .before .loop .inv .1) ∙ ap (map _) x)
     ∙ front (convert-s binary32) a (replicate 20 0) (search needs)
 
 pub convert-s32x4-spec : {M : Type 1} → statement M

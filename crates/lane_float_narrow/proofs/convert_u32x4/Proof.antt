@@ -44,7 +44,8 @@ array-read-by-top-2 : tie.Need-array-read-by-top-2 Inv-loop μ-loop
 array-read-by-top-2 c = search needs
 
 by-top-requires : tie.Need-by-top-requires Inv-loop μ-loop
-by-top-requires c κs = mapped top-digit (c .before .before .before .before .before .args .a) top-of-zero (c .before .before .before .before .places .ensures) (c .before .before .before .tops .ensures) (c .before .before .places2 .ensures) (c .before .loop .i)
+by-top-requires c κs = mapped top-digit (c .before .before .before .before .before .args .a) top-of-zero
+    (c .before .before .before .before .places .ensures) (c .before .before .before .tops .ensures) (c .before .before .places2 .ensures) (c .before .loop .i)
 
 mul-r : tie.Need-mul-r Inv-loop μ-loop
 mul-r c = search needs
@@ -59,7 +60,12 @@ loop-less : tie.Need-loop-less Inv-loop μ-loop
 loop-less c = search needs
 
 loop-again : tie.Need-loop-again Inv-loop μ-loop
-loop-again c = (search needs, fill-turn 24 _ (replicate 24 0) _ refl (places-are (c .before .before .before .before .before .before .args .a) (search needs) (c .before .before .before .before .before .places .ensures)) (search needs) (c .before .before .loop .inv .1) (c .by-top .ensures))
+loop-again c = (
+  search needs,
+  fill-turn 24 _ (replicate 24 0) _ refl
+      (places-are (c .before .before .before .before .before .before .args .a) (search needs) (c .before .before .before .before .before .places .ensures))
+      (search needs) (c .before .before .loop .inv .1) (c .by-top .ensures),
+)
 
 lanes-requires : tie.Need-lanes-requires Inv-loop μ-loop
 lanes-requires c κs = search needs
@@ -69,7 +75,8 @@ returns c =
     let a = c .before .before .before .before .before .before .args .a in
     let n = c .before .before .before .before .before .places .ensures in
     c .lanes .ensures
-    ∙ ap (take 4) (filled 24 _ (replicate 24 0) _ refl (places-are a (search needs) n) (c .before .before .loop .i) (search needs) (c .before .before .loop .inv .1) ∙ ap (map _) n)
+    ∙ ap (take 4) (filled 24 _ (replicate 24 0) _ refl (places-are a (search needs) n) (c .before .before .loop .i) (search needs)
+    (c .before .before .loop .inv .1) ∙ ap (map _) n)
     ∙ front (convert-u binary32) a (replicate 20 0) (search needs)
 
 pub convert-u32x4-spec : {M : Type 1} → statement M

@@ -46,7 +46,8 @@ sub-sign : tie.Need-sub-sign
 sub-sign c = search needs
 
 returns : tie.Need-returns
-returns c = sign-is (c .before .args .bits) (c .before .fits .bits .fits) ∙ far-below (c .before .args .bits) (under 863 (c .before .args .bits) (c .if1 .taken))
+returns c = sign-is (c .before .args .bits) (c .before .fits .bits .fits)
+    ∙ far-below (c .before .args .bits) (under 863 (c .before .args .bits) (c .if1 .taken))
 
 add-pick32 : tie.Need-add-pick32
 add-pick32 c = search needs
@@ -63,7 +64,8 @@ add-result c = search needs
 returns-3 : tie.Need-returns-3
 returns-3 c =
     ap (λ (s : ℕ). s + 2139095040) (sign-is (c .before .before .before .args .bits) (c .before .before .before .fits .bits .fits))
-    ∙ above (c .before .before .before .args .bits) (from 1151 (c .before .before .before .args .bits) (c .if3 .taken)) (finite (c .before .before .before .args .bits) (c .before .if2 .left))
+    ∙ above (c .before .before .before .args .bits) (from 1151 (c .before .before .before .args .bits) (c .if3 .taken))
+    (finite (c .before .before .before .args .bits) (c .before .if2 .left))
 
 cast-field : tie.Need-cast-field
 cast-field c = search needs
@@ -84,7 +86,8 @@ bits c = c .before .before .before .before .before .args .bits
 low-is : (c : tie.After-nearest-shift) → c .nearest-shift .result ≡ closest (digits binary64 (bits c)) (2 ^ (926 - field binary64 (bits c)))
 low-is c =
     c .nearest-shift .ensures
-    ∙ ap₂ (λ (n x : ℕ). closest n (2 ^ (926 - x))) (digits-are binary64 (bits c) (some _ (from 863 (bits c) (c .before .before .before .before .if1 .left)))) (field-is (bits c))
+    ∙ ap₂ (λ (n x : ℕ). closest n (2 ^ (926 - x)))
+    (digits-are binary64 (bits c) (some _ (from 863 (bits c) (c .before .before .before .before .if1 .left)))) (field-is (bits c))
 
 low-field : (c : tie.After-nearest-shift) → field binary64 (bits c) < 897
 low-field c = subst (λ (x : ℕ). x < 897) (field-is (bits c)) (c .before .if4 .taken)
@@ -103,7 +106,8 @@ add-result-2 : tie.Need-add-result-2
 add-result-2 c = record { fits = fits (bits c) (c .before .before .before .before .before .fits .bits .fits) (low-le c) }
 
 returns-4 : tie.Need-returns-4
-returns-4 c = ap₂ _+_ (sign-is (bits c) (c .before .before .before .before .before .fits .bits .fits)) (low-is c) ∙ below (bits c) (from 863 (bits c) (c .before .before .before .before .if1 .left)) (low-field c)
+returns-4 c = ap₂ _+_ (sign-is (bits c) (c .before .before .before .before .before .fits .bits .fits)) (low-is c)
+    ∙ below (bits c) (from 863 (bits c) (c .before .before .before .before .if1 .left)) (low-field c)
 
 mul-result : tie.Need-mul-result
 mul-result c = search needs
@@ -116,7 +120,8 @@ abbrev bits' : tie.After-nearest-shift2 → ℕ
 bits' c = c .before .before .before .before .before .args .bits
 
 high-is : (c : tie.After-nearest-shift2) → c .nearest-shift2 .result ≡ closest (digits binary64 (bits' c)) (2 ^ 29)
-high-is c = c .nearest-shift2 .ensures ∙ ap (λ (n : ℕ). closest n (2 ^ 29)) (digits-are binary64 (bits' c) (some _ (from 863 (bits' c) (c .before .before .before .before .if1 .left))))
+high-is c = c .nearest-shift2 .ensures ∙ ap (λ (n : ℕ). closest n (2 ^ 29))
+    (digits-are binary64 (bits' c) (some _ (from 863 (bits' c) (c .before .before .before .before .if1 .left))))
 
 high-le : (c : tie.After-nearest-shift2) → (upper (bits' c) / 1048576 - 897) * 8388608 + c .nearest-shift2 .result ≤ 2139095040
 high-le c = go (upper (bits' c)) (c .nearest-shift2 .result) (c .before .before .if3 .left) (le-trans (le-of-eq (high-is c)) (kept-le (bits' c) 29 (lit≤ tt)))
@@ -135,8 +140,10 @@ add-result-4 c = record { fits = fits (bits' c) (c .before .before .before .befo
 
 returns-5 : tie.Need-returns-5
 returns-5 c =
-    ap₂ _+_ (sign-is (bits' c) (c .before .before .before .before .before .fits .bits .fits)) (ap₂ (λ (x k : ℕ). (x - 897) * 8388608 + k) (field-is (bits' c)) (high-is c))
-    ∙ inside (bits' c) (subst (λ (x : ℕ). 897 ≤ x) (field-is (bits' c)) (c .before .if4 .left)) (le-of-suc-le-suc (under 1151 (bits' c) (c .before .before .if3 .left)))
+    ap₂ _+_ (sign-is (bits' c) (c .before .before .before .before .before .fits .bits .fits))
+    (ap₂ (λ (x k : ℕ). (x - 897) * 8388608 + k) (field-is (bits' c)) (high-is c))
+    ∙ inside (bits' c) (subst (λ (x : ℕ). 897 ≤ x) (field-is (bits' c)) (c .before .if4 .left))
+    (le-of-suc-le-suc (under 1151 (bits' c) (c .before .before .if3 .left)))
 
 pub demote-spec : {M : Type 1} → statement M
 demote-spec = tie.close (tie.spec cast-high sub-sign returns add-pick32 pick32-requires returns-2 add-result returns-3 cast-field add-digits sub-nearest-shift nearest-shift-requires cast-result add-result-2 returns-4 mul-result nearest-shift-requires-2 add-result-3 cast-result-2 add-result-4 returns-5)

@@ -22,13 +22,18 @@ lift-is c = c .lift .ensures ∙ within true false (c .before .args .n) (c .befo
 
 add-result : tie.Need-add-result
 add-result c =
-    record { fits = room (c .before .args .n) (c .lift .result) (c .before .pre .1 .1) (le-trans (le-of-eq (lift-is c)) (le-trans (lift-le true false (c .before .args .n / 2 ^ c .before .args .k) (c .before .args .k)) (pow-mono (le-of-suc-le-suc (c .before .pre .1 .0))))) }
+    record {
+      fits = room (c .before .args .n) (c .lift .result) (c .before .pre .1 .1)
+          (le-trans (le-of-eq (lift-is c)) (le-trans (lift-le true false (c .before .args .n / 2 ^ c .before .args .k) (c .before .args .k))
+          (pow-mono (le-of-suc-le-suc (c .before .pre .1 .0)))));
+    }
 
 shr-result : tie.Need-shr-result
 shr-result c = search needs
 
 returns : tie.Need-returns
-returns c = ap (λ (l : ℕ). (c .before .args .n + l) / 2 ^ c .before .args .k) (lift-is c) ∙ sym (lifted true false (c .before .args .n) (c .before .args .k) (c .before .pre .0))
+returns c = ap (λ (l : ℕ). (c .before .args .n + l) / 2 ^ c .before .args .k) (lift-is c)
+    ∙ sym (lifted true false (c .before .args .n) (c .before .args .k) (c .before .pre .0))
 
 pub nearest-shift-spec : {M : Type 1} → statement M
 nearest-shift-spec = tie.close (tie.spec lift-requires add-result shr-result returns)

@@ -21,7 +21,8 @@ returns : tie.Need-returns
 returns c = sym (ap natAbs (reads-low (c .before .args .n) (c .if1 .taken)))
 
 returns-2 : tie.Need-returns-2
-returns-2 c = counted (c .before .args .n) (c .before .fits .n .fits) ∙ sym (ap natAbs (reads-high (c .before .args .n) (c .if1 .left) (c .before .fits .n .fits)))
+returns-2 c = counted (c .before .args .n) (c .before .fits .n .fits)
+    ∙ sym (ap natAbs (reads-high (c .before .args .n) (c .if1 .left) (c .before .fits .n .fits)))
 
 pub magnitude-spec : {M : Type 1} → statement M
 magnitude-spec = tie.close (tie.spec sub-result add-result returns returns-2)

@@ -34,9 +34,12 @@ shr-result c = search needs
 some : (x : ℕ) → 1023 ≤ x → 0 < x
 some x h = omega arith
 
-part-is : (c : tie.Else3) → ((c .before .before .before .args .bits) % 4503599627370496 + 4503599627370496) / 2 ^ (1075 - field binary64 (c .before .before .before .args .bits)) ≡ trunc-sat-u binary64 ((c .before .before .before .args .bits) % 2 ^ 63)
+part-is : (c : tie.Else3) → ((c .before .before .before .args .bits) % 4503599627370496 + 4503599627370496) / 2 ^
+    (1075 - field binary64 (c .before .before .before .args .bits)) ≡ trunc-sat-u binary64 ((c .before .before .before .args .bits) % 2 ^ 63)
 part-is c =
-    ap (λ (n : ℕ). n / 2 ^ (1075 - field binary64 (c .before .before .before .args .bits))) (digits-are binary64 (c .before .before .before .args .bits) (some _ (c .before .if2 .left)) ∙ sym (mul-one (digits binary64 (c .before .before .before .args .bits))))
+    ap (λ (n : ℕ). n / 2 ^ (1075 - field binary64 (c .before .before .before .args .bits)))
+    (digits-are binary64 (c .before .before .before .args .bits) (some _ (c .before .if2 .left))
+    ∙ sym (mul-one (digits binary64 (c .before .before .before .args .bits))))
     ∙ part-middle binary64 (c .before .before .before .args .bits) 0 (some _ (c .before .if2 .left)) (le-trans (c .if3 .left) (lit≤ tt)) (c .if3 .left)
 
 cast-result : tie.Need-cast-result

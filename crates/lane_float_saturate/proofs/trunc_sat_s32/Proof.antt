@@ -36,7 +36,8 @@ returns : tie.Need-returns
 returns c =
     let b = c .before .before .before .before .args .bits in
     c .pick323 .ensures ∙ ap (λ (w : ℕ). cond (ltb (b % 2147483648) 1065353216 || ltb 2139095040 (b % 2147483648)) 0 w) (c .before .pick322 .ensures)
-    ∙ signed b (c .before .before .before .before .fits .bits .fits) (c .before .before .before .pick32 .ensures) (search needs) (c .before .before .wrapping-sub-u32 .ensures)
+    ∙ signed b (c .before .before .before .before .fits .bits .fits) (c .before .before .before .pick32 .ensures) (search needs)
+    (c .before .before .wrapping-sub-u32 .ensures)
 
 pub trunc-sat-s32-spec : {M : Type 1} → statement M
 trunc-sat-s32-spec = tie.close (tie.spec sub-down mul-part add-part shr-part pick32-requires wrapping-sub-u32-requires pick32-requires-2 pick32-requires-3 returns)

@@ -29,7 +29,8 @@ returns-2 : tie.Need-returns-2
 returns-2 c = c .pick322 .ensures ∙ ones-field (c .before .before .before .before .args .bits) (c .before .before .pick32 .ensures) (c .before .if2 .taken)
 
 returns-3 : tie.Need-returns-3
-returns-3 c = at-end (c .before .before .before .before .args .bits) (c .before .before .pick32 .ensures) (finite (c .before .before .before .before .args .bits) (c .before .if2 .left)) (from 1054 (c .before .before .before .before .args .bits) (c .if3 .taken))
+returns-3 c = at-end (c .before .before .before .before .args .bits) (c .before .before .pick32 .ensures)
+    (finite (c .before .before .before .before .args .bits) (c .before .if2 .left)) (from 1054 (c .before .before .before .before .args .bits) (c .if3 .taken))
 
 add-digits : tie.Need-add-digits
 add-digits c = search needs
@@ -79,7 +80,8 @@ pick32-requires-3 : tie.Need-pick32-requires-3
 pick32-requires-3 c κs = search needs
 
 returns-4 : tie.Need-returns-4
-returns-4 c = c .pick323 .ensures ∙ with-sign (c .before .before .before .before .before .args .bits) (field-from (c .before)) (field-under (c .before)) (part-is (c .before .before .before .before .before .args .bits) (field-from (c .before)) (field-under (c .before)))
+returns-4 c = c .pick323 .ensures ∙ with-sign (c .before .before .before .before .before .args .bits) (field-from (c .before)) (field-under (c .before))
+    (part-is (c .before .before .before .before .before .args .bits) (field-from (c .before)) (field-under (c .before)))
 
 pub trunc-sat-s64-spec : {M : Type 1} → statement M
 trunc-sat-s64-spec = tie.close (tie.spec cast-high returns pick32-requires pick32-requires-2 returns-2 returns-3 add-digits cast-part sub-part shr-part cast-part-2 sub-pick32 add-pick32 pick32-requires-3 returns-4)

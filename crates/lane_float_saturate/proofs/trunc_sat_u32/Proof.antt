@@ -29,7 +29,8 @@ pick32-requires-2 c κs = search needs
 returns : tie.Need-returns
 returns c =
     let b = c .before .before .args .bits in
-    c .pick322 .ensures ∙ ap (λ (w : ℕ). cond (ltb b 1065353216 || ltb 2139095040 b) 0 w) (c .before .pick32 .ensures) ∙ unsigned b (c .before .before .fits .bits .fits)
+    c .pick322 .ensures ∙ ap (λ (w : ℕ). cond (ltb b 1065353216 || ltb 2139095040 b) 0 w) (c .before .pick32 .ensures)
+    ∙ unsigned b (c .before .before .fits .bits .fits)
 
 pub trunc-sat-u32-spec : {M : Type 1} → statement M
 trunc-sat-u32-spec = tie.close (tie.spec sub-down mul-part add-part shr-part pick32-requires pick32-requires-2 returns)

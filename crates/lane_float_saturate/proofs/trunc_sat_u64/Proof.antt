@@ -21,7 +21,8 @@ returns c =
 returns-2 : tie.Need-returns-2
 returns-2 c =
     let b = c .before .before .args .bits in
-    c .part64 .ensures ∙ ap (λ (t : Bool). cond t 0 (trunc-sat-u binary64 (b % top binary64))) (sym (lt-leb _ _ (c .before .if1 .left))) ∙ unsigned-lane binary64 b
+    c .part64 .ensures ∙ ap (λ (t : Bool). cond t 0 (trunc-sat-u binary64 (b % top binary64))) (sym (lt-leb _ _ (c .before .if1 .left)))
+    ∙ unsigned-lane binary64 b
 
 pub trunc-sat-u64-spec : {M : Type 1} → statement M
 trunc-sat-u64-spec = tie.close (tie.spec part64-requires returns returns-2)

@@ -44,19 +44,24 @@ pick64-requires : tie.Need-pick64-requires
 pick64-requires c κs = search needs
 
 float-from-bits-pattern64 : tie.Need-float-from-bits-pattern64
-float-from-bits-pattern64 c = number (c .before .before .args .a) (c .before .before .args .b) (c .before .ordered64 .result) (c .before .ordered64 .ensures) (c .before .before .args .a) (λ h. ordered binary64 _ _ (c .before .ordered64 .ensures) h .0) (c .pick64 .ensures)
+float-from-bits-pattern64 c = number (c .before .before .args .a) (c .before .before .args .b) (c .before .ordered64 .result)
+    (c .before .ordered64 .ensures) (c .before .before .args .a) (λ h. ordered binary64 _ _ (c .before .ordered64 .ensures) h .0) (c .pick64 .ensures)
 
 pick64-requires-2 : tie.Need-pick64-requires-2
 pick64-requires-2 c κs = search needs
 
 float-from-bits-pattern64-2 : tie.Need-float-from-bits-pattern64-2
-float-from-bits-pattern64-2 c = number (c .before .before .before .args .a) (c .before .before .before .args .b) (c .before .before .ordered64 .result) (c .before .before .ordered64 .ensures) (c .before .before .before .args .b) (λ h. ordered binary64 _ _ (c .before .before .ordered64 .ensures) h .1) (c .pick642 .ensures)
+float-from-bits-pattern64-2 c = number (c .before .before .before .args .a) (c .before .before .before .args .b) (c .before .before .ordered64 .result)
+    (c .before .before .ordered64 .ensures) (c .before .before .before .args .b) (λ h. ordered binary64 _ _ (c .before .before .ordered64 .ensures) h .1)
+    (c .pick642 .ensures)
 
 pattern64-requires : tie.Need-pattern64-requires
 pattern64-requires c κs = search needs
 
 returns : tie.Need-returns
-returns c = quotient (c .before .before .before .before .args .a) (c .before .before .before .before .args .b) (c .before .before .before .ordered64 .result) (c .before .before .before .ordered64 .ensures) (c .before .before .pick64 .ensures) (c .before .pick642 .ensures) (c .pattern64 .ensures)
+returns c = quotient (c .before .before .before .before .args .a) (c .before .before .before .before .args .b)
+    (c .before .before .before .ordered64 .result) (c .before .before .before .ordered64 .ensures) (c .before .before .pick64 .ensures)
+    (c .before .pick642 .ensures) (c .pattern64 .ensures)
 
 pub fdiv64-spec : {M : Type 1} → statement M
 fdiv64-spec = tie.close (tie.spec ordered64-requires pick64-requires float-from-bits-pattern64 pick64-requires-2 float-from-bits-pattern64-2 pattern64-requires returns)

@@ -19,10 +19,14 @@ convert-u64-requires : tie.Need-convert-u64-requires
 convert-u64-requires c κs = search needs
 
 add-result : tie.Need-add-result
-add-result c = record { fits = lt-of-le-of-lt (le-of-eq (ap₂ _+_ (c .before .before .pick64 .ensures) (c .convert-u64 .ensures))) (lane-fits (c .before .before .before .args .n) binary64 (c .before .magnitude .result)) }
+add-result c = record {
+  fits = lt-of-le-of-lt (le-of-eq (ap₂ _+_ (c .before .before .pick64 .ensures) (c .convert-u64 .ensures)))
+      (lane-fits (c .before .before .before .args .n) binary64 (c .before .magnitude .result));
+}
 
 returns : tie.Need-returns
-returns c = ap₂ _+_ (c .before .before .pick64 .ensures) (c .convert-u64 .ensures ∙ ap (convert-u binary64) (c .before .magnitude .ensures)) ∙ signed-lane (c .before .before .before .args .n) binary64 (c .before .before .before .fits .n .fits)
+returns c = ap₂ _+_ (c .before .before .pick64 .ensures) (c .convert-u64 .ensures ∙ ap (convert-u binary64) (c .before .magnitude .ensures))
+    ∙ signed-lane (c .before .before .before .args .n) binary64 (c .before .before .before .fits .n .fits)
 
 pub convert-s64-spec : {M : Type 1} → statement M
 convert-s64-spec =

@@ -76,7 +76,11 @@ quotient-requires c κs = search needs
 
 add-result-3 : tie.Need-add-result-3
 add-result-3 c =
-    record { fits = lt-of-le-of-lt (le-of-eq (ap₂ _+_ (sign-is (c .before .before .before .before .args .bits) (c .before .before .before .before .fits .bits .fits)) (c .quotient .ensures))) (sign-fits binary64 (leb 2147483648 (c .before .before .before .before .args .bits)) _ (magnitude-le binary64 _ _)) }
+    record {
+      fits = lt-of-le-of-lt (le-of-eq (ap₂ _+_
+          (sign-is (c .before .before .before .before .args .bits) (c .before .before .before .before .fits .bits .fits)) (c .quotient .ensures)))
+          (sign-fits binary64 (leb 2147483648 (c .before .before .before .before .args .bits)) _ (magnitude-le binary64 _ _));
+    }
 
 add-result-4 : tie.Need-add-result-4
 add-result-4 c = search needs
@@ -85,13 +89,15 @@ returns-3 : tie.Need-returns-3
 returns-3 c =
     let b = c .before .before .before .before .args .bits in
     let f = none b (c .before .before .before .if1 .left) (c .before .if3 .taken) in
-    ap₂ _+_ (sign-is b (c .before .before .before .before .fits .bits .fits)) (c .quotient .ensures ∙ ap (λ (n : ℕ). toBits binary64 (round binary64 false n (2 ^ 149))) (digits-alone b f))
+    ap₂ _+_ (sign-is b (c .before .before .before .before .fits .bits .fits))
+    (c .quotient .ensures ∙ ap (λ (n : ℕ). toBits binary64 (round binary64 false n (2 ^ 149))) (digits-alone b f))
     ∙ no-field b f
 
 returns-4 : tie.Need-returns-4
 returns-4 c =
     let b = c .before .before .before .args .bits in
-    ap (λ (s : ℕ). s + 9218868437227405312) (sign-is b (c .before .before .before .fits .bits .fits)) ∙ infinity-kept b (all b (c .if3 .left)) (c .before .if2 .left)
+    ap (λ (s : ℕ). s + 9218868437227405312) (sign-is b (c .before .before .before .fits .bits .fits))
+    ∙ infinity-kept b (all b (c .if3 .left)) (c .before .if2 .left)
 
 pub promote-spec : {M : Type 1} → statement M
 promote-spec = tie.close (tie.spec sub-sign cast-sign mul-sign add-if1 cast-result mul-result add-result add-result-2 returns returns-2 quotient-requires add-result-3 add-result-4 returns-3 returns-4)

@@ -17,7 +17,8 @@ some : (n : ℕ) → (n ≡ 0 → ⊥) → 0 < n
 some n h = omega arith
 
 returns : tie.Need-returns
-returns c = zero-pattern binary64 (2 ^ c .before .args .l) (pow-pos (c .before .args .l)) ∙ ap (λ (n : ℕ). toBits binary64 (round binary64 false n (2 ^ c .before .args .l))) (sym (c .if1 .taken))
+returns c = zero-pattern binary64 (2 ^ c .before .args .l) (pow-pos (c .before .args .l))
+    ∙ ap (λ (n : ℕ). toBits binary64 (round binary64 false n (2 ^ c .before .args .l))) (sym (c .if1 .taken))
 
 sub-k : tie.Need-sub-k
 sub-k c = le-of-suc-le-suc (z-lt (c .before .args .n) (some (c .before .args .n) (c .if1 .left)) (c .before .fits .n .fits))
@@ -41,12 +42,16 @@ add-w : tie.Need-add-w
 add-w c = search needs
 
 add-w-2 : tie.Need-add-w-2
-add-w-2 c = record { fits = fits (c .before .args .n) (some (c .before .args .n) (c .if1 .left)) (c .before .fits .n .fits) (c .before .args .l) (turned (c .before .args .n) (some (c .before .args .n) (c .if1 .left)) (c .before .fits .n .fits)) }
+add-w-2 c = record {
+  fits = fits (c .before .args .n) (some (c .before .args .n) (c .if1 .left)) (c .before .fits .n .fits) (c .before .args .l)
+      (turned (c .before .args .n) (some (c .before .args .n) (c .if1 .left)) (c .before .fits .n .fits));
+}
 
 returns-2 : tie.Need-returns-2
 returns-2 c =
     back (c .before .args .n) (some (c .before .args .n) (c .if1 .left)) (c .before .fits .n .fits) (c .before .args .l) (c .before .pre)
-    (ap (λ (w : ℕ). w + (1022 - c .before .args .l + (31 - leadingZeros 32 (c .before .args .n)))) (turned (c .before .args .n) (some (c .before .args .n) (c .if1 .left)) (c .before .fits .n .fits)))
+    (ap (λ (w : ℕ). w + (1022 - c .before .args .l + (31 - leadingZeros 32 (c .before .args .n))))
+    (turned (c .before .args .n) (some (c .before .args .n) (c .if1 .left)) (c .before .fits .n .fits)))
 
 pub quotient-spec : {M : Type 1} → statement M
 quotient-spec = tie.close (tie.spec returns sub-k cast-k shr-w sub-w shl-w sub-w-2 add-w add-w-2 returns-2)

@@ -14,13 +14,16 @@ wide8-requires-2 : tie.Need-wide8-requires-2
 wide8-requires-2 c κs = search needs
 
 add-sat-s8 : tie.Need-add-sat-s8
-add-sat-s8 c = sum-exact w8 tt (c .before .before .fits .a) (c .before .before .fits .b) (c .before .wide8 .ok) (c .before .wide8 .ensures) (c .wide82 .ok) (c .wide82 .ensures) .0
+add-sat-s8 c = sum-exact w8 tt (c .before .before .fits .a) (c .before .before .fits .b) (c .before .wide8 .ok) (c .before .wide8 .ensures) (c .wide82 .ok)
+    (c .wide82 .ensures) .0
 
 sat-s8-requires : tie.Need-sat-s8-requires
 sat-s8-requires c κs = search needs
 
 returns : tie.Need-returns
-returns c = c .sat-s8 .ensures ∙ ap (sat-s 8) (sum-exact w8 tt (c .before .before .before .fits .a) (c .before .before .before .fits .b) (c .before .before .wide8 .ok) (c .before .before .wide8 .ensures) (c .before .wide82 .ok) (c .before .wide82 .ensures) .1)
+returns c = c .sat-s8 .ensures ∙ ap (sat-s 8)
+    (sum-exact w8 tt (c .before .before .before .fits .a) (c .before .before .before .fits .b) (c .before .before .wide8 .ok)
+    (c .before .before .wide8 .ensures) (c .before .wide82 .ok) (c .before .wide82 .ensures) .1)
 
 pub add-sat-s8-spec : {M : Type 1} → statement M
 add-sat-s8-spec = tie.close (tie.spec wide8-requires wide8-requires-2 add-sat-s8 sat-s8-requires returns)

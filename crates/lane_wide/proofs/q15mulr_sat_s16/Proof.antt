@@ -17,28 +17,37 @@ wide16-requires-2 c κs = search needs
 
 returns : tie.Need-returns
 returns c =
-    let r = rounded-shift w16 tt (c .before .before .before .before .fits .a) (c .before .before .before .before .fits .b) (c .before .before .before .wide16 .ok) (c .before .before .before .wide16 .ensures) (c .before .before .wide162 .ok) (c .before .before .wide162 .ensures) in
+    let r = rounded-shift w16 tt (c .before .before .before .before .fits .a) (c .before .before .before .before .fits .b)
+    (c .before .before .before .wide16 .ok) (c .before .before .before .wide16 .ensures) (c .before .before .wide162 .ok)
+    (c .before .before .wide162 .ensures) in
     c .unsigned16 .ensures
-    ∙ upper-past w16 r (not-below _ (lanes-between _ _ (c .before .before .before .before .fits .a) (c .before .before .before .before .fits .b) .above)) (c .before .if1 .taken)
+    ∙ upper-past w16 r (not-below _ (lanes-between _ _ (c .before .before .before .before .fits .a) (c .before .before .before .before .fits .b) .above))
+    (c .before .if1 .taken)
 
 returns-2 : tie.Need-returns-2
 returns-2 c =
-    let r = rounded-shift w16 tt (c .before .before .before .before .fits .a) (c .before .before .before .before .fits .b) (c .before .before .before .wide16 .ok) (c .before .before .before .wide16 .ensures) (c .before .before .wide162 .ok) (c .before .before .wide162 .ensures) in
+    let r = rounded-shift w16 tt (c .before .before .before .before .fits .a) (c .before .before .before .before .fits .b)
+    (c .before .before .before .wide16 .ok) (c .before .before .before .wide16 .ensures) (c .before .before .wide162 .ok)
+    (c .before .before .wide162 .ensures) in
     c .unsigned162 .ensures
-    ∙ upper-inside w16 r (not-below _ (lanes-between _ _ (c .before .before .before .before .fits .a) (c .before .before .before .before .fits .b) .above)) (c .before .if1 .left)
+    ∙ upper-inside w16 r (not-below _ (lanes-between _ _ (c .before .before .before .before .fits .a) (c .before .before .before .before .fits .b) .above))
+    (c .before .if1 .left)
 
 mul-rounded : tie.Need-mul-rounded
-mul-rounded c = product-exact w16 tt (c .before .before .fits .a) (c .before .before .fits .b) (c .before .wide16 .ok) (c .before .wide16 .ensures) (c .wide162 .ok) (c .wide162 .ensures) .0
+mul-rounded c = product-exact w16 tt (c .before .before .fits .a) (c .before .before .fits .b) (c .before .wide16 .ok) (c .before .wide16 .ensures)
+    (c .wide162 .ok) (c .wide162 .ensures) .0
 
 add-rounded : tie.Need-add-rounded
-add-rounded c = rounded-exact w16 tt (c .before .before .fits .a) (c .before .before .fits .b) (c .before .wide16 .ok) (c .before .wide16 .ensures) (c .wide162 .ok) (c .wide162 .ensures) .0
+add-rounded c = rounded-exact w16 tt (c .before .before .fits .a) (c .before .before .fits .b) (c .before .wide16 .ok) (c .before .wide16 .ensures)
+    (c .wide162 .ok) (c .wide162 .ensures) .0
 
 unsigned16-requires : tie.Need-unsigned16-requires
 unsigned16-requires c κs = search needs
 
 cast-unsigned16 : tie.Need-cast-unsigned16
 cast-unsigned16 c =
-    let r = rounded-shift w16 tt (c .before .before .before .fits .a) (c .before .before .before .fits .b) (c .before .before .wide16 .ok) (c .before .before .wide16 .ensures) (c .before .wide162 .ok) (c .before .wide162 .ensures) in
+    let r = rounded-shift w16 tt (c .before .before .before .fits .a) (c .before .before .before .fits .b) (c .before .before .wide16 .ok)
+    (c .before .before .wide16 .ensures) (c .before .wide162 .ok) (c .before .wide162 .ensures) in
     upper-casts w16 r (not-below _ (lanes-between _ _ (c .before .before .before .fits .a) (c .before .before .before .fits .b) .above)) (c .if1 .left)
 
 unsigned16-requires-2 : tie.Need-unsigned16-requires-2

@@ -41,7 +41,8 @@ sum16-requires c κs = search needs
 returns : tie.Need-returns
 returns c =
     c .sum16 .ensures
-    ∙ ap₂ (iadd 16) (c .before .before .before .before .mul16 .ensures ∙ ap₂ (imul 16) (c .before .before .before .before .before .before .extend8 .ensures) (c .before .before .before .before .before .extend82 .ensures))
+    ∙ ap₂ (iadd 16) (c .before .before .before .before .mul16 .ensures
+    ∙ ap₂ (imul 16) (c .before .before .before .before .before .before .extend8 .ensures) (c .before .before .before .before .before .extend82 .ensures))
     (c .before .mul162 .ensures ∙ ap₂ (imul 16) (c .before .before .before .extend83 .ensures) (c .before .before .extend84 .ensures))
 
 pub dot16-spec : {M : Type 1} → statement M

@@ -41,7 +41,9 @@ wrapping-add-u32-requires c κs = search needs
 returns : tie.Need-returns
 returns c =
     c .wrapping-add-u32 .ensures
-    ∙ ap₂ (iadd 32) (c .before .before .before .before .mul32 .ensures ∙ ap₂ (imul 32) (c .before .before .before .before .before .before .extend-s16 .ensures) (c .before .before .before .before .before .extend-s162 .ensures))
+    ∙ ap₂ (iadd 32) (c .before .before .before .before .mul32 .ensures
+    ∙ ap₂ (imul 32) (c .before .before .before .before .before .before .extend-s16 .ensures)
+    (c .before .before .before .before .before .extend-s162 .ensures))
     (c .before .mul322 .ensures ∙ ap₂ (imul 32) (c .before .before .before .extend-s163 .ensures) (c .before .before .extend-s164 .ensures))
 
 pub dot32-spec : {M : Type 1} → statement M

@@ -22,7 +22,8 @@ returns c = λ X s made.
     let given = c .before .before .before .before .args in
     let state = c .before .before .taken-in .ensures in
     let told = c .before .seek .ensures X (subst (λ (z : Scan). Stands (given .length) X (given .window .now) z) (sym state) s) made in
-    subst (λ (z : Next). Told (given .marker) (given .tolerance) (given .length) X (given .window .now) (scan-in (given .state)) z) (sym (c .meeting-or-none .ensures))
+    subst (λ (z : Next). Told (given .marker) (given .tolerance) (given .length) X (given .window .now) (scan-in (given .state)) z)
+    (sym (c .meeting-or-none .ensures))
     (subst (λ (z : Scan). Told (given .marker) (given .tolerance) (given .length) X (given .window .now) z (c .before .seek .result)) state told)
 
 pub gatulefo-scan-next-spec : {M : Type 1} → statement M

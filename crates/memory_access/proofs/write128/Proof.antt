@@ -18,7 +18,8 @@ same-length : tie.Need-same-length
 same-length c = search needs
 
 returns : tie.Need-returns
-returns c = write-both _ _ 8 (omega arith) _ (search needs) (c .before .before .before .before .before .before .write64 .ensures) (c .before .before .write642 .ensures)
+returns c = write-both _ _ 8 (omega arith) _ (search needs) (c .before .before .before .before .before .before .write64 .ensures)
+    (c .before .before .write642 .ensures)
 
 pub write128-spec : {M : Type 1} → statement M
 write128-spec =

@@ -26,10 +26,12 @@ enum-known-short c = search needs
 returns-2 : tie.Need-returns-2
 returns-2 c =
     c .of-vector .ensures
-    ∙ lane-loaded _ _ _ 32 _ (c .before .before .before .before .before .before .if1 .left) (rw (c .before .before .before .value .given .1) at (c .before .before .before .before .before .fetch32 .ensures)) (c .before .replace32 .ensures)
+    ∙ lane-loaded _ _ _ 32 _ (c .before .before .before .before .before .before .if1 .left)
+    (rw (c .before .before .before .value .given .1) at (c .before .before .before .before .before .fetch32 .ensures)) (c .before .replace32 .ensures)
 
 returns-3 : tie.Need-returns-3
-returns-3 c = lane-unloaded _ _ _ 32 _ (c .before .before .before .before .if1 .left) (rw (c .before .short .given .1) at (c .before .before .before .fetch32 .ensures))
+returns-3 c = lane-unloaded _ _ _ 32 _ (c .before .before .before .before .if1 .left)
+    (rw (c .before .short .given .1) at (c .before .before .before .fetch32 .ensures))
 
 pub lane32-from-spec : {M : Type 1} → statement M
 lane32-from-spec =

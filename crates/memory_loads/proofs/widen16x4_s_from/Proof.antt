@@ -18,7 +18,8 @@ enum-known-short : tie.Need-enum-known-short
 enum-known-short c = search needs
 
 returns : tie.Need-returns
-returns c = widened _ _ extend-s 16 (rw (c .before .before .value .given .1) at (c .before .before .before .before .fetch64 .ensures)) (c .v128-widen16x4-s .ensures)
+returns c = widened _ _ extend-s 16 (rw (c .before .before .value .given .1) at (c .before .before .before .before .fetch64 .ensures))
+    (c .v128-widen16x4-s .ensures)
 
 returns-2 : tie.Need-returns-2
 returns-2 c = unwidened _ _ extend-s 16 (rw (c .before .short .given .1) at (c .before .before .before .fetch64 .ensures))

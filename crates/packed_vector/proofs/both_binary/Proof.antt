@@ -12,7 +12,8 @@ binary-requires-2 : tie.Need-binary-requires-2
 binary-requires-2 c κs = search needs
 
 returns : tie.Need-returns
-returns c = both-binary _ (binary-divides (c .before .before .args .op)) (c .before .before .args .a) (search needs) _ (c .before .before .args .b) (search needs) (c .before .binary .ensures) (c .binary2 .ensures)
+returns c = both-binary _ (binary-divides (c .before .before .args .op)) (c .before .before .args .a) (search needs) _ (c .before .before .args .b)
+    (search needs) (c .before .binary .ensures) (c .binary2 .ensures)
 
 pub both-binary-spec : {M : Type 1} → statement M
 both-binary-spec = tie.close (tie.spec binary-requires binary-requires-2 returns)

@@ -12,7 +12,8 @@ unary-requires-2 : tie.Need-unary-requires-2
 unary-requires-2 c κs = search needs
 
 returns : tie.Need-returns
-returns c = both-unary _ (unary-divides (c .before .before .args .op) (c .before .before .args .count)) (c .before .before .args .a) (search needs) _ (c .before .unary .ensures) (c .unary2 .ensures)
+returns c = both-unary _ (unary-divides (c .before .before .args .op) (c .before .before .args .count)) (c .before .before .args .a) (search needs) _
+    (c .before .unary .ensures) (c .unary2 .ensures)
 
 pub both-unary-spec : {M : Type 1} → statement M
 both-unary-spec = tie.close (tie.spec unary-requires unary-requires-2 returns)

@@ -12,7 +12,8 @@ all-true16-requires-2 : tie.Need-all-true16-requires-2
 all-true16-requires-2 c κs = search needs
 
 returns : tie.Need-returns
-returns c = both-all-true 16 (refl, refl) (c .before .before .args .a) (search needs) (c .before .all-true16 .result) (c .all-true162 .result) (c .before .all-true16 .ensures) (c .all-true162 .ensures)
+returns c = both-all-true 16 (refl, refl) (c .before .before .args .a) (search needs) (c .before .all-true16 .result) (c .all-true162 .result)
+    (c .before .all-true16 .ensures) (c .all-true162 .ensures)
 
 pub i16x8-all-true-spec : {M : Type 1} → statement M
 i16x8-all-true-spec = tie.close (tie.spec all-true16-requires all-true16-requires-2 returns)

@@ -33,7 +33,8 @@ returns c =
 cast-next : tie.Need-cast-next Inv-loop μ-loop
 cast-next c = search needs
 
-product : (c : tie.Else1 Inv-loop μ-loop) → c .before .before .before .before .loop .value * c .before .before .before .before .before .before .args .base < 2 ^ 36
+product : (c : tie.Else1 Inv-loop μ-loop)
+    → c .before .before .before .before .loop .value * c .before .before .before .before .before .before .args .base < 2 ^ 36
 product c = product-lt _ _ (c .before .before .before .before .loop .inv .1) (c .before .before .before .before .before .before .pre .1)
 
 mul-next : tie.Need-mul-next Inv-loop μ-loop
@@ -48,7 +49,8 @@ add-next c = record { fits = omega (arith, product c) }
 reads-on : (c : tie.Else1 Inv-loop μ-loop)
     → let given = c .before .before .before .before .before .before .args in
     let loop = c .before .before .before .before .loop in
-    numeral (given .base) 0 (given .text .now) ≡ numeral (given .base) (loop .value * given .base + c .before .digit .result) (drop (loop .i + 1) (given .text .now))
+    numeral (given .base) 0 (given .text .now)
+    ≡ numeral (given .base) (loop .value * given .base + c .before .digit .result) (drop (loop .i + 1) (given .text .now))
 reads-on c =
     let given = c .before .before .before .before .before .before .args in
     let loop = c .before .before .before .before .loop in

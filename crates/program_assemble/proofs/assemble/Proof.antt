@@ -39,7 +39,8 @@ put-complaint-requires-2 c κs = search needs
 
 returns-2 : tie.Need-returns-2
 returns-2 c =
-    rw (told-wrong (c .before .before .before .before .before .before .before .before .args .text .now) (search needs) (c .before .before .before .before .read-text .result) _ _ (c .before .before .before .before .read-text .ensures) (search needs))
+    rw (told-wrong (c .before .before .before .before .before .before .before .before .args .text .now) (search needs)
+    (c .before .before .before .before .read-text .result) _ _ (c .before .before .before .before .read-text .ensures) (search needs))
     (record { output = none _; said = filled (complaint-length _ _) (search needs) (c .put-complaint2 .ensures) })
 
 mul-end : tie.Need-mul-end
@@ -49,7 +50,9 @@ array-share-prefix-list : tie.Need-array-share-prefix-list
 array-share-prefix-list c = search needs
 
 slice-aggregate-put : tie.Need-slice-aggregate-put
-slice-aggregate-put c = sym (length-take-le _ _ (list-fits _ (search needs) (c .before .before .before .before .before .read-text .result) _ _ (c .before .before .before .before .before .read-text .ensures) (omega (arith, zeros))))
+slice-aggregate-put c = sym (length-take-le _ _
+    (list-fits _ (search needs) (c .before .before .before .before .before .read-text .result) _ _
+    (c .before .before .before .before .before .read-text .ensures) (omega (arith, zeros))))
 
 put-requires : tie.Need-put-requires
 put-requires c κs = search needs
@@ -57,7 +60,8 @@ put-requires c κs = search needs
 returns-3 : tie.Need-returns-3
 returns-3 c =
     let read = c .before .before .before .before .before .before .read-text in
-    rw (told-list (c .before .before .before .before .before .before .before .before .before .before .args .text .now) (search needs) (read .result) _ _ (read .ensures) (omega (arith, zeros)) (search needs))
+    rw (told-list (c .before .before .before .before .before .before .before .before .before .before .args .text .now) (search needs) (read .result) _ _
+    (read .ensures) (omega (arith, zeros)) (search needs))
     (record { output = filled (list-short (read .result) _ (read .ensures .most)) (search needs) (c .put .ensures); said = none _ })
 
 pub assemble-spec : {M : Type 1} → statement M

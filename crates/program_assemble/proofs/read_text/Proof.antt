@@ -43,25 +43,44 @@ same-length : tie.Need-same-length Inv-loop μ-loop
 same-length c = search needs
 
 returns : tie.Need-returns Inv-loop μ-loop
-returns c = wrong-here (c .before .before .before .take-line .result) (c .before .before .before .before .before .before .before .loop .inv .1) (found (c .before .before .before .before .before .before)) (c .before .before .before .take-line .ensures) (c .if1 .taken)
+returns c = wrong-here (c .before .before .before .take-line .result) (c .before .before .before .before .before .before .before .loop .inv .1)
+    (found (c .before .before .before .before .before .before)) (c .before .before .before .take-line .ensures) (c .if1 .taken)
 
 same-length-2 : tie.Need-same-length-2 Inv-loop μ-loop
 same-length-2 c = search needs
 
 returns-2 : tie.Need-returns-2 Inv-loop μ-loop
-returns-2 c = all-read (c .before .before .before .before .take-line .result) (c .before .before .before .before .before .before .before .before .loop .inv .1) (found (c .before .before .before .before .before .before .before)) (c .before .before .before .before .take-line .ensures) (search needs) (search needs)
+returns-2 c = all-read (c .before .before .before .before .take-line .result)
+    (c .before .before .before .before .before .before .before .before .loop .inv .1) (found (c .before .before .before .before .before .before .before))
+    (c .before .before .before .before .take-line .ensures) (search needs) (search needs)
 
 add-from : tie.Need-add-from Inv-loop μ-loop
 add-from c = omega (arith, found (c .before .before .before .before .before .before .before) .high)
 
 add-line : tie.Need-add-line Inv-loop μ-loop
-add-line c = omega (arith, found (c .before .before .before .before .before .before .before) .low, found (c .before .before .before .before .before .before .before) .high, c .before .before .before .before .before .before .before .before .loop .inv .1 .lines)
+add-line c = omega (
+  arith,
+  found (c .before .before .before .before .before .before .before) .low,
+  found
+      (c .before .before .before .before .before .before .before) .high,
+  c .before .before .before .before .before .before .before .before .loop .inv .1 .lines,
+)
 
 loop-less : tie.Need-loop-less Inv-loop μ-loop
-loop-less c = omega (arith, found (c .before .before .before .before .before .before .before) .low, found (c .before .before .before .before .before .before .before) .high)
+loop-less c = omega (
+  arith,
+  found (c .before .before .before .before .before .before .before) .low,
+  found
+      (c .before .before .before .before .before .before .before) .high,
+)
 
 loop-again : tie.Need-loop-again Inv-loop μ-loop
-loop-again c = (search needs, read-on (c .before .before .before .before .take-line .result) (c .before .before .before .before .before .before .before .before .loop .inv .1) (found (c .before .before .before .before .before .before .before)) (c .before .before .before .before .take-line .ensures) (search needs) (c .if2 .left))
+loop-again c = (
+  search needs,
+  read-on (c .before .before .before .before .take-line .result)
+      (c .before .before .before .before .before .before .before .before .loop .inv .1) (found (c .before .before .before .before .before .before .before))
+      (c .before .before .before .before .take-line .ensures) (search needs) (c .if2 .left),
+)
 
 pub read-text-spec : {M : Type 1} → statement M
 read-text-spec =

@@ -16,12 +16,14 @@ returns c =
 returns-2 : tie.Need-returns-2
 returns-2 c =
     let read = c .before .before .read-line in
-    takes-none _ _ _ _ (c .before .before .before .before .before .pre) _ (read-refused (read .result) _ (read .ensures) (c .before .if1 .left) (c .if2 .taken)) (c .if2 .taken)
+    takes-none _ _ _ _ (c .before .before .before .before .before .pre) _
+    (read-refused (read .result) _ (read .ensures) (c .before .if1 .left) (c .if2 .taken)) (c .if2 .taken)
 
 returns-3 : tie.Need-returns-3
 returns-3 c =
     let read = c .before .before .before .read-line in
-    takes-full _ _ _ _ (c .before .before .before .before .before .before .pre) _ (read-step (read .result) _ (read .ensures) (c .before .before .if1 .left) (search needs)) (search needs)
+    takes-full _ _ _ _ (c .before .before .before .before .before .before .pre) _
+    (read-step (read .result) _ (read .ensures) (c .before .before .if1 .left) (search needs)) (search needs)
 
 slice-aggregate-put : tie.Need-slice-aggregate-put
 slice-aggregate-put c = search needs
@@ -39,7 +41,8 @@ returns-4 : tie.Need-returns-4
 returns-4 c =
     let read = c .before .before .before .before .before .before .before .before .before .read-line in
     let start = c .before .before .before .before .before .before .before .before .before .before .before .before in
-    takes-step _ _ _ _ (start .pre) _ _ _ (read-step (read .result) _ (read .ensures) (c .before .before .before .before .before .before .before .before .if1 .left) (search needs))
+    takes-step _ _ _ _ (start .pre) _ _ _ (read-step (read .result) _ (read .ensures)
+    (c .before .before .before .before .before .before .before .before .if1 .left) (search needs))
     (omega (arith, c .before .before .before .before .before .before .if3 .left, start .pre)) (search needs) (c .before .before .put .ensures)
 
 pub take-line-spec : {M : Type 1} → statement M

@@ -34,7 +34,11 @@ returns-2 : tie.Need-returns-2
 returns-2 c =
     let judged = c .before .before .before .judge in
     rw (told-text _ (judged .result) (judged .ensures) (search needs))
-    (record { output = filled (text-length (c .before .before .before .before .before .args .list .now) (sym (judged .ensures) ∙ search needs)) (search needs) (c .put-steps .ensures); said = none _ })
+    (record {
+      output = filled (text-length (c .before .before .before .before .before .args .list .now) (sym (judged .ensures) ∙ search needs))
+          (search needs) (c .put-steps .ensures);
+      said = none _;
+    })
 
 pub disassemble-spec : {M : Type 1} → statement M
 disassemble-spec =

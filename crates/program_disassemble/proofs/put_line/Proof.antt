@@ -15,7 +15,8 @@ zeros = refl
 
 fits : (c : tie.After-put-count) → c .put-count .result ≤ length (c .put-count .last .0)
 unfolding codes
-fits c = line-fits _ _ zeros (c .before .before .before .before .before .before .before .before .before .put-step .ensures) (c .before .before .before .before .before .before .before .gap .ensures) (c .before .before .before .before .put .ensures) (c .put-count .ensures)
+fits c = line-fits _ _ zeros (c .before .before .before .before .before .before .before .before .before .put-step .ensures)
+    (c .before .before .before .before .before .before .before .gap .ensures) (c .before .before .before .before .put .ensures) (c .put-count .ensures)
 
 slice-aggregate-put-step : tie.Need-slice-aggregate-put-step
 slice-aggregate-put-step c = search needs
@@ -63,7 +64,9 @@ returns : tie.Need-returns
 unfolding codes
 returns c =
     let made = c .before .before .before .before .before .before in
-    line-put _ _ zeros (made .before .before .before .before .before .before .before .before .before .put-step .ensures) (made .before .before .before .before .before .before .before .gap .ensures) (made .before .before .before .before .put .ensures) (made .put-count .ensures) (c .before .before .put2 .ensures)
+    line-put _ _ zeros (made .before .before .before .before .before .before .before .before .before .put-step .ensures)
+    (made .before .before .before .before .before .before .before .gap .ensures) (made .before .before .before .before .put .ensures)
+    (made .put-count .ensures) (c .before .before .put2 .ensures)
 
 pub put-line-spec : {M : Type 1} → statement M
 put-line-spec =

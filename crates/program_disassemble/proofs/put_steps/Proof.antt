@@ -54,8 +54,12 @@ loop-again c =
     let at = c .before .before .before .before .before .before .loop in
     let more : at .i + 1 ≡ suc (at .i) = omega arith in
     let one : at .i + 1 ≡ 1 + at .i = omega arith in
-    let part : 32 * at .i + 32 - 32 * at .i ≡ 32 = omega arith in
-    (search needs, search needs, rw (more, ← lines-more 1 (at .i) (given .list .now)) (then (at .inv .2) (rw (part, one) at (c .before .before .put-line .ensures))))
+    let part : 32 * at .i + 32 - 32 * at .i ≡ 32 = omega arith in (
+      search needs,
+      search needs,
+      rw (more, ← lines-more 1 (at .i) (given .list .now))
+          (then (at .inv .2) (rw (part, one) at (c .before .before .put-line .ensures))),
+    )
 
 same-length : tie.Need-same-length Inv-loop μ-loop
 same-length c = search needs

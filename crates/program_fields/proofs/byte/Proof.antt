@@ -36,7 +36,11 @@ digit-requires-2 c κs = search needs
 returns-3 : tie.Need-returns-3
 returns-3 c =
     let given = c .before .before .before .before .before .before .before .before .args in
-    record { inside = tt; is = no-low (given .line .now) (given .at) (omega arith) _ (c .before .before .before .before .digit .ensures) _ (c .before .digit2 .ensures) (omega arith) (search needs) }
+    record {
+      inside = tt;
+      is = no-low (given .line .now) (given .at) (omega arith) _ (c .before .before .before .before .digit .ensures) _
+          (c .before .digit2 .ensures) (omega arith) (search needs);
+    }
 
 mul-t9 : tie.Need-mul-t9
 mul-t9 c = search needs
@@ -50,7 +54,11 @@ add-t6 c = search needs
 returns-4 : tie.Need-returns-4
 returns-4 c =
     let given = c .before .before .before .before .before .before .before .before .args in
-    record { inside = omega arith; is = is-byte (given .line .now) (given .at) (omega arith) _ (c .before .before .before .before .digit .ensures) _ (c .before .digit2 .ensures) (omega arith) (search needs) }
+    record {
+      inside = omega arith;
+      is = is-byte (given .line .now) (given .at) (omega arith) _ (c .before .before .before .before .digit .ensures) _
+          (c .before .digit2 .ensures) (omega arith) (search needs);
+    }
 
 pub byte-spec : {M : Type 1} → statement M
 byte-spec =

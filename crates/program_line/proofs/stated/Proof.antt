@@ -57,7 +57,8 @@ returns-2 c =
     let first = second .before .before in
     let same = sames _ _ _ (c .before .before .before .same .ensures) in
     read-as
-    (ap end-line (c .before .take-fields .ensures .is) ∙ is-whole _ _ (found first) (second .before .if1 .left) _ (found-2 second) _ same (c .before .before .if2 .taken))
+    (ap end-line (c .before .take-fields .ensures .is)
+    ∙ is-whole _ _ (found first) (second .before .if1 .left) _ (found-2 second) _ same (c .before .before .if2 .taken))
     (c .end-line .ensures)
 
 sub-number : tie.Need-sub-number

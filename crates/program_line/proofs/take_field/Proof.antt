@@ -42,7 +42,8 @@ returns-2 c =
     let n = c .before .n .given .0 in
     record {
       inside = value .inside;
-      is = is-found _ _ (given .place) (given .r .at) (given .r .reason) _ (search needs) _ (found (c .before .before .before .before .before)) (n .0) (n .1 .0) (value .is);
+      is = is-found _ _ (given .place) (given .r .at) (given .r .reason) _ (search needs) _ (found (c .before .before .before .before .before)) (n .0)
+          (n .1 .0) (value .is);
     }
 
 returns-3 : tie.Need-returns-3

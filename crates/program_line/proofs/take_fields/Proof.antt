@@ -12,7 +12,8 @@ use Rattle.program_line.proofs.take_fields.Tie as tie
 
 abbrev Inv-loop : tie.InvT-loop
 Inv-loop line kind count place q₀ i₀ q i =
-    (i ≤ count) × (q .at ≤ length line) × (take-fields (field-of kind) (count - i) (place + i) (state-of line q) ≡ take-fields (field-of kind) count place (state-of line q₀))
+    (i ≤ count) × (q .at ≤ length line) × (take-fields (field-of kind) (count - i) (place + i) (state-of line q)
+    ≡ take-fields (field-of kind) count place (state-of line q₀))
 
 abbrev μ-loop : tie.MeasureT-loop
 μ-loop line kind count place q₀ i₀ q i = count - i

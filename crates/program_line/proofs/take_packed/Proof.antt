@@ -69,7 +69,8 @@ returns-3 c =
     let same = sames _ _ _ (c .before .same .ensures) in
     record {
       inside = start .pre;
-      is = not-packed _ (r .at) (r .reason) (r .step) (search needs) _ (first .scan .ensures) (found first) (second .before .if2 .left) _ (found-2 second) _ same (not-true _ (c .if3 .taken));
+      is = not-packed _ (r .at) (r .reason) (r .step) (search needs) _ (first .scan .ensures) (found first) (second .before .if2 .left) _
+          (found-2 second) _ same (not-true _ (c .if3 .taken));
     }
 
 scan-requires-3 : tie.Need-scan-requires-3
@@ -89,7 +90,8 @@ returns-4 c =
     let same = sames _ _ _ (third .before .before .same .ensures) in
     record {
       inside = found-3 third .high;
-      is = marked-one _ (r .at) (r .reason) (r .step) (search needs) _ (first .scan .ensures) (found first) (second .before .if2 .left) _ (found-2 second) _ same (not-false _ (third .before .if3 .left)) _ (found-3 third) (search needs);
+      is = marked-one _ (r .at) (r .reason) (r .step) (search needs) _ (first .scan .ensures) (found first) (second .before .if2 .left) _
+          (found-2 second) _ same (not-false _ (third .before .if3 .left)) _ (found-3 third) (search needs);
     }
 
 take-field-requires : tie.Need-take-field-requires
@@ -108,7 +110,8 @@ returns-5 c =
       inside = c .take-field .ensures .inside;
       is =
           c .take-field .ensures .is
-          ∙ marked _ (r .at) (r .reason) (r .step) (search needs) _ (first .scan .ensures) (found first) (second .before .if2 .left) _ (found-2 second) _ same (not-false _ (third .before .if3 .left)) _ (found-3 third) (search needs);
+          ∙ marked _ (r .at) (r .reason) (r .step) (search needs) _ (first .scan .ensures) (found first) (second .before .if2 .left) _
+          (found-2 second) _ same (not-false _ (third .before .if3 .left)) _ (found-3 third) (search needs);
     }
 
 pub take-packed-spec : {M : Type 1} → statement M

@@ -18,7 +18,8 @@ put-count-requires c κs = search needs
 
 returns : tie.Need-returns
 unfolding fold codes
-returns c = filled (fold-length (c .before .before .before .before .before .args .refused) (c .before .before .before .before .before .args .indices) (search needs)) (search needs) (search (needs, then))
+returns c = filled (fold-length (c .before .before .before .before .before .args .refused) (c .before .before .before .before .before .args .indices)
+    (search needs)) (search needs) (search (needs, then))
 
 pub fold-spec : {M : Type 1} → statement M
 fold-spec =

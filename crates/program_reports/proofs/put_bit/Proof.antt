@@ -23,7 +23,8 @@ same-length c = search needs
 
 returns : tie.Need-returns
 unfolding codes
-returns c = simp (lt-ltb (c .before .before .before .before .before .before .before .before .before .before .before .before .args .bit) 4096 (c .before .before .before .before .before .before .before .before .before .before .if1 .taken)) (search (needs, then))
+returns c = simp (lt-ltb (c .before .before .before .before .before .before .before .before .before .before .before .before .args .bit) 4096
+    (c .before .before .before .before .before .before .before .before .before .before .if1 .taken)) (search (needs, then))
 
 returns-2 : tie.Need-returns-2
 unfolding codes

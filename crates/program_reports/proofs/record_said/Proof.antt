@@ -49,15 +49,18 @@ returns c = rw (c .enum-told .given .1) (record { count = refl; is = refl; room 
 
 returns-2 : tie.Need-returns-2
 unfolding record-said codes
-returns-2 c = filled (record-said-length (recorded-of (c .before .before .before .before .before .args .recorded))) (search needs) (rw (c .before .before .before .enum-told2 .given .1) (c .put .ensures))
+returns-2 c = filled (record-said-length (recorded-of (c .before .before .before .before .before .args .recorded))) (search needs)
+    (rw (c .before .before .before .enum-told2 .given .1) (c .put .ensures))
 
 returns-3 : tie.Need-returns-3
 unfolding record-said codes
-returns-3 c = filled (record-said-length (recorded-of (c .before .before .before .before .before .args .recorded))) (search needs) (rw (c .before .before .before .enum-told3 .given .1) (c .put2 .ensures))
+returns-3 c = filled (record-said-length (recorded-of (c .before .before .before .before .before .args .recorded))) (search needs)
+    (rw (c .before .before .before .enum-told3 .given .1) (c .put2 .ensures))
 
 returns-4 : tie.Need-returns-4
 unfolding record-said codes
-returns-4 c = filled (record-said-length (recorded-of (c .before .before .before .before .before .before .args .recorded))) (search needs) (rw (c .before .before .before .before .recorded .given .1) (c .put-count .ensures))
+returns-4 c = filled (record-said-length (recorded-of (c .before .before .before .before .before .before .args .recorded))) (search needs)
+    (rw (c .before .before .before .before .recorded .given .1) (c .put-count .ensures))
 
 pub record-said-spec : {M : Type 1} → statement M
 record-said-spec =

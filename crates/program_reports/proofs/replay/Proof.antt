@@ -43,15 +43,18 @@ put-count-requires-2 c κs = search needs
 
 returns : tie.Need-returns
 unfolding replay codes
-returns c = filled (replay-length (answer-of (c .before .before .before .before .before .args .answer))) (search needs) (rw (c .before .before .before .enum-told .given .1) (c .put .ensures))
+returns c = filled (replay-length (answer-of (c .before .before .before .before .before .args .answer))) (search needs)
+    (rw (c .before .before .before .enum-told .given .1) (c .put .ensures))
 
 returns-2 : tie.Need-returns-2
 unfolding replay codes
-returns-2 c = filled (replay-length (answer-of (c .before .before .before .before .before .before .args .answer))) (search needs) (rw (c .before .before .before .before .answer .given .1) (c .put-count .ensures))
+returns-2 c = filled (replay-length (answer-of (c .before .before .before .before .before .before .args .answer))) (search needs)
+    (rw (c .before .before .before .before .answer .given .1) (c .put-count .ensures))
 
 returns-3 : tie.Need-returns-3
 unfolding replay codes
-returns-3 c = filled (replay-length (answer-of (c .before .before .before .before .before .before .args .answer))) (search needs) (rw (c .before .before .before .before .answer2 .given .1) (c .put-count2 .ensures))
+returns-3 c = filled (replay-length (answer-of (c .before .before .before .before .before .before .args .answer))) (search needs)
+    (rw (c .before .before .before .before .answer2 .given .1) (c .put-count2 .ensures))
 
 pub replay-spec : {M : Type 1} → statement M
 replay-spec =

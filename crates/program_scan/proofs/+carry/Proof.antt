@@ -58,7 +58,8 @@ carry-returns-2 t c =
     let given = c .before .before .before .before .args in (
       drop-set-lt (given .end) (given .text .now) (given .end - 1) _ (omega arith),
       λ pre m q nine small e r.
-          no-carry (given .text .now) pre (given .end) m q (omega arith) (omega arith) (view (given .text .now) pre (given .end) m q (omega arith) (omega arith) nine e) small (omega arith),
+          no-carry (given .text .now) pre (given .end) m q (omega arith) (omega arith)
+          (view (given .text .now) pre (given .end) m q (omega arith) (omega arith) nine e) small (omega arith),
     )
 
 carry-sub-text-2 :
@@ -92,8 +93,10 @@ carry-returns-3 t c =
       behind (given .text .now) (later .last .0) (given .end) (omega arith) (later .ensures .0),
       λ pre m q nine small e r.
           let v = view (given .text .now) pre (given .end) m q (omega arith) (omega arith) nine e in
-          carried (given .text .now) pre (given .end) m q (omega arith) (omega arith) v small (later .last .0) (λ h. omega arith) (later .kept .0 ∙ length-set (given .text .now) (given .end - 1) 48) (later .ensures .0)
-          (later .ensures .1 pre (v .fewer) (q / 10) nine (tenth-small (given .text .now) pre (given .end) m q (omega arith) (omega arith) v small) (take-set-le (given .end - 1) (given .text .now) (given .end - 1) 48 (omega arith) ∙ v .front) r),
+          carried (given .text .now) pre (given .end) m q (omega arith) (omega arith) v small (later .last .0) (λ h. omega arith)
+          (later .kept .0 ∙ length-set (given .text .now) (given .end - 1) 48) (later .ensures .0)
+          (later .ensures .1 pre (v .fewer) (q / 10) nine (tenth-small (given .text .now) pre (given .end) m q (omega arith) (omega arith) v small)
+          (take-set-le (given .end - 1) (given .text .now) (given .end - 1) 48 (omega arith) ∙ v .front) r),
     )
 
 pub +carry-spec : {M : Type 1} → statement M

@@ -41,7 +41,11 @@ loop-holds c =
       refl,
       omega arith,
       λ e. absurd (true≢false (sym e)),
-      λ made. (begun (bits (given .buffer .now)) (mark (given .marker)) (given .tolerance) (given .frame) (given .base) (given .block .now) (given .from), begun-exact (bits (given .buffer .now)) (mark (given .marker)) (given .tolerance) (given .frame) (given .base) (given .from)),
+      λ made. (
+        begun (bits (given .buffer .now)) (mark (given .marker)) (given .tolerance) (given .frame) (given .base) (given .block .now)
+            (given .from),
+        begun-exact (bits (given .buffer .now)) (mark (given .marker)) (given .tolerance) (given .frame) (given .base) (given .from),
+      ),
     )
 
 sub-room : tie.Need-sub-room Inv-loop μ-loop
@@ -60,7 +64,18 @@ returns c =
     let inv = loop .inv in
     let full = c .before .is-full .ensures .0 (c .if1 .taken) in (
       (inv .0, inv .1, inv .6),
-      λ made. record { forward = inv .0; inside = inv .1; wrote = inv .8 made .0; exact = inv .8 made .1; fits = inv .6; full = λ h. (omega (arith, full .0, inv .2), λ z. omega (arith, full .1 z, inv .2)) },
+      λ made. record {
+        forward = inv .0;
+        inside = inv .1;
+        wrote = inv .8 made .0;
+        exact = inv .8 made .1;
+        fits = inv .6;
+        full = λ h. (
+          omega
+              (arith, full .0, inv .2),
+          λ z. omega (arith, full .1 z, inv .2),
+        );
+      },
     )
 
 sub-if2 : tie.Need-sub-if2 Inv-loop μ-loop
@@ -116,7 +131,8 @@ loop-again c =
       many .ensures .1 .1 .1 .1,
       omega (arith, held, room, size),
       λ e. rw next at (many .ensures .0),
-      λ made. let put = more (bits (given .buffer .now)) (mark (given .marker)) (given .tolerance) (given .frame) (given .base) (given .from) (loop .at) (inv .0) (inv .8 made .0) 256 (many .ensures .1 .0 (given .base) refl) in (put, exact put (omega (arith, held, room, size))),
+      λ made. let put = more (bits (given .buffer .now)) (mark (given .marker)) (given .tolerance) (given .frame) (given .base) (given .from) (loop .at)
+          (inv .0) (inv .8 made .0) 256 (many .ensures .1 .0 (given .base) refl) in (put, exact put (omega (arith, held, room, size))),
     )
 
 sought-requires : tie.Need-sought-requires Inv-loop μ-loop
@@ -136,17 +152,19 @@ returns-2 c =
     let given = c .before .before .before .before .before .before .before .before .before .before .args in
     let loop = c .before .before .before .before .before .before .before .loop in
     let inv = loop .inv in
-    let room : 45 ≤ length (loop .block) - loop .pen .held = c .before .before .before .before .before .is-full .ensures .1 (c .before .before .before .before .if1 .left) in
+    let room : 45 ≤ length (loop .block) - loop .pen .held = c .before .before .before .before .before .is-full .ensures .1
+    (c .before .before .before .before .if1 .left) in
     let size : length (loop .block) ≡ length (given .block .now) = inv .2 in (
       (omega (arith, inv .0, inv .1), omega arith, inv .6),
-      λ made. let put = none-more (bits (given .buffer .now)) (mark (given .marker)) (given .tolerance) (given .frame) (given .base) (given .from) (loop .at) (given .end) (inv .0) (inv .1) (rw (c .enum-told .given .1) at (c .before .before .sought .ensures .1 made)) (inv .8 made .0) in record {
-        forward = omega (arith, inv .0, inv .1);
-        inside = omega arith;
-        wrote = put;
-        exact = exact put (omega (arith, room, size));
-        fits = inv .6;
-        full = λ h. absurd (omega arith);
-      },
+      λ made. let put = none-more (bits (given .buffer .now)) (mark (given .marker)) (given .tolerance) (given .frame) (given .base) (given .from)
+          (loop .at) (given .end) (inv .0) (inv .1) (rw (c .enum-told .given .1) at (c .before .before .sought .ensures .1 made)) (inv .8 made .0) in record {
+            forward = omega (arith, inv .0, inv .1);
+            inside = omega arith;
+            wrote = put;
+            exact = exact put (omega (arith, room, size));
+            fits = inv .6;
+            full = λ h. absurd (omega arith);
+          },
     )
 
 slice-aggregate-one : tie.Need-slice-aggregate-one Inv-loop μ-loop
@@ -155,8 +173,12 @@ slice-aggregate-one c = search needs
 add-one : tie.Need-add-one Inv-loop μ-loop
 add-one c =
     let given = c .before .before .before .before .before .before .before .before .before .before .before .before .before .args in
-    let within : Within (c .before .before .before .before .before .before .before .before .before .before .loop .at) (given .end) (Answer.Found (c .before .before .before .p .given .0 .0) (c .before .before .before .p .given .0 .1 .0) (c .before .before .before .p .given .0 .1 .1 .0)) = rw (c .before .before .before .p .given .1) at (c .before .before .before .before .before .sought .ensures .0) in
-    let high : given .end + given .frame + 31 ≤ 8 * length (given .buffer .now) = c .before .before .before .before .before .before .before .before .before .before .before .before .before .pre .1 .1 .0 in
+    let within : Within (c .before .before .before .before .before .before .before .before .before .before .loop .at) (given .end)
+    (Answer.Found (c .before .before .before .p .given .0 .0) (c .before .before .before .p .given .0 .1 .0)
+    (c .before .before .before .p .given .0 .1 .1 .0)) = rw (c .before .before .before .p .given .1) at
+    (c .before .before .before .before .before .sought .ensures .0) in
+    let high : given .end + given .frame + 31 ≤ 8 * length
+    (given .buffer .now) = c .before .before .before .before .before .before .before .before .before .before .before .before .before .pre .1 .1 .0 in
     let below : given .base + 8 * length (given .buffer .now) ≤ 9223372036854775808 = c .before .before .before .before .before .before .before .before .before .before .before .before .before .pre .1 .1 .1 .0 in
     record { fits = omega (arith, within .1, high, below) }
 
@@ -165,11 +187,16 @@ one-requires c κs =
     let given = c .before .before .before .before .before .before .before .before .before .before .before .before .before .args in
     let loop = c .before .before .before .before .before .before .before .before .before .before .loop in
     let inv = loop .inv in
-    let within : Within (loop .at) (given .end) (Answer.Found (c .before .before .before .p .given .0 .0) (c .before .before .before .p .given .0 .1 .0) (c .before .before .before .p .given .0 .1 .1 .0)) = rw (c .before .before .before .p .given .1) at (c .before .before .before .before .before .sought .ensures .0) in
-    let high : given .end + given .frame + 31 ≤ 8 * length (given .buffer .now) = c .before .before .before .before .before .before .before .before .before .before .before .before .before .pre .1 .1 .0 in
+    let within : Within (loop .at) (given .end)
+    (Answer.Found (c .before .before .before .p .given .0 .0) (c .before .before .before .p .given .0 .1 .0)
+    (c .before .before .before .p .given .0 .1 .1 .0)) = rw (c .before .before .before .p .given .1) at
+    (c .before .before .before .before .before .sought .ensures .0) in
+    let high : given .end + given .frame + 31 ≤ 8 * length
+    (given .buffer .now) = c .before .before .before .before .before .before .before .before .before .before .before .before .before .pre .1 .1 .0 in
     let below : given .base + 8 * length (given .buffer .now) ≤ 9223372036854775808 = c .before .before .before .before .before .before .before .before .before .before .before .before .before .pre .1 .1 .1 .0 in
     let number : given .base + c .before .before .before .p .given .0 .0 < 9223372036854775808 = omega (arith, within .1, high, below) in
-    let room : 45 ≤ length (loop .block) - loop .pen .held = c .before .before .before .before .before .before .before .before .is-full .ensures .1 (c .before .before .before .before .before .before .before .if1 .left) in
+    let room : 45 ≤ length (loop .block) - loop .pen .held = c .before .before .before .before .before .before .before .before .is-full .ensures .1
+    (c .before .before .before .before .before .before .before .if1 .left) in
     let space : loop .pen .held + 44 ≤ length (loop .block) = omega (arith, room) in
     (omega (arith, inv .3), (number, (space, (within .2, within .3))))
 
@@ -177,14 +204,24 @@ sub-dense : tie.Need-sub-dense Inv-loop μ-loop
 sub-dense c =
     let given = c .before .before .before .before .before .before .before .before .before .before .before .before .before .before .before .before .before .args in
     let loop = c .before .before .before .before .before .before .before .before .before .before .before .before .before .before .loop in
-    let within : Within (loop .at) (given .end) (Answer.Found (c .before .before .before .before .before .before .before .p .given .0 .0) (c .before .before .before .before .before .before .before .p .given .0 .1 .0) (c .before .before .before .before .before .before .before .p .given .0 .1 .1 .0)) = rw (c .before .before .before .before .before .before .before .p .given .1) at (c .before .before .before .before .before .before .before .before .before .sought .ensures .0) in
+    let within : Within (loop .at) (given .end)
+    (Answer.Found (c .before .before .before .before .before .before .before .p .given .0 .0)
+    (c .before .before .before .before .before .before .before .p .given .0 .1 .0)
+    (c .before .before .before .before .before .before .before .p .given .0 .1 .1 .0)) = rw
+    (c .before .before .before .before .before .before .before .p .given .1) at
+    (c .before .before .before .before .before .before .before .before .before .sought .ensures .0) in
     within .0
 
 add-at-2 : tie.Need-add-at-2 Inv-loop μ-loop
 add-at-2 c =
     let given = c .before .before .before .before .before .before .before .before .before .before .before .before .before .before .before .before .before .args in
     let loop = c .before .before .before .before .before .before .before .before .before .before .before .before .before .before .loop in
-    let within : Within (loop .at) (given .end) (Answer.Found (c .before .before .before .before .before .before .before .p .given .0 .0) (c .before .before .before .before .before .before .before .p .given .0 .1 .0) (c .before .before .before .before .before .before .before .p .given .0 .1 .1 .0)) = rw (c .before .before .before .before .before .before .before .p .given .1) at (c .before .before .before .before .before .before .before .before .before .sought .ensures .0) in
+    let within : Within (loop .at) (given .end)
+    (Answer.Found (c .before .before .before .before .before .before .before .p .given .0 .0)
+    (c .before .before .before .before .before .before .before .p .given .0 .1 .0)
+    (c .before .before .before .before .before .before .before .p .given .0 .1 .1 .0)) = rw
+    (c .before .before .before .before .before .before .before .p .given .1) at
+    (c .before .before .before .before .before .before .before .before .before .sought .ensures .0) in
     let high : given .end + given .frame + 31 ≤ 8 * length (given .buffer .now) = c .before .before .before .before .before .before .before .before .before .before .before .before .before .before .before .before .before .pre .1 .1 .0 in
     let below : given .base + 8 * length (given .buffer .now) ≤ 9223372036854775808 = c .before .before .before .before .before .before .before .before .before .before .before .before .before .before .before .before .before .pre .1 .1 .1 .0 in
     record { fits = omega (arith, within .1, high, below) }
@@ -193,14 +230,24 @@ loop-less-2 : tie.Need-loop-less-2 Inv-loop μ-loop
 loop-less-2 c =
     let given = c .before .before .before .before .before .before .before .before .before .before .before .before .before .before .before .before .before .args in
     let loop = c .before .before .before .before .before .before .before .before .before .before .before .before .before .before .loop in
-    let within : Within (loop .at) (given .end) (Answer.Found (c .before .before .before .before .before .before .before .p .given .0 .0) (c .before .before .before .before .before .before .before .p .given .0 .1 .0) (c .before .before .before .before .before .before .before .p .given .0 .1 .1 .0)) = rw (c .before .before .before .before .before .before .before .p .given .1) at (c .before .before .before .before .before .before .before .before .before .sought .ensures .0) in
+    let within : Within (loop .at) (given .end)
+    (Answer.Found (c .before .before .before .before .before .before .before .p .given .0 .0)
+    (c .before .before .before .before .before .before .before .p .given .0 .1 .0)
+    (c .before .before .before .before .before .before .before .p .given .0 .1 .1 .0)) = rw
+    (c .before .before .before .before .before .before .before .p .given .1) at
+    (c .before .before .before .before .before .before .before .before .before .sought .ensures .0) in
     omega (arith, within .0, within .1)
 
 loop-again-2 : tie.Need-loop-again-2 Inv-loop μ-loop
 loop-again-2 c =
     let given = c .before .before .before .before .before .before .before .before .before .before .before .before .before .before .before .before .before .args in
     let loop = c .before .before .before .before .before .before .before .before .before .before .before .before .before .before .loop in
-    let within : Within (loop .at) (given .end) (Answer.Found (c .before .before .before .before .before .before .before .p .given .0 .0) (c .before .before .before .before .before .before .before .p .given .0 .1 .0) (c .before .before .before .before .before .before .before .p .given .0 .1 .1 .0)) = rw (c .before .before .before .before .before .before .before .p .given .1) at (c .before .before .before .before .before .before .before .before .before .sought .ensures .0) in
+    let within : Within (loop .at) (given .end)
+    (Answer.Found (c .before .before .before .before .before .before .before .p .given .0 .0)
+    (c .before .before .before .before .before .before .before .p .given .0 .1 .0)
+    (c .before .before .before .before .before .before .before .p .given .0 .1 .1 .0)) = rw
+    (c .before .before .before .before .before .before .before .p .given .1) at
+    (c .before .before .before .before .before .before .before .before .before .sought .ensures .0) in
     let inv = loop .inv in
     let one = c .before .before .before .one in
     let p = c .before .before .before .before .before .before .before .p .given .0 .0 in
@@ -216,7 +263,11 @@ loop-again-2 c =
       inv .5,
       omega (arith, held, room, size),
       λ e. rw next at (one .ensures .0),
-      λ made. let put = one-more (bits (given .buffer .now)) (mark (given .marker)) (given .tolerance) (given .frame) (given .base) (given .from) (loop .at) (inv .0) (inv .8 made .0) p _ _ (within .0) (rw (c .before .before .before .before .before .before .before .p .given .1) at (c .before .before .before .before .before .before .before .before .before .sought .ensures .1 made)) (one .ensures .1 .0) in (put, exact put (omega (arith, held, room, size))),
+      λ made. let put = one-more (bits (given .buffer .now)) (mark (given .marker)) (given .tolerance) (given .frame) (given .base) (given .from) (loop .at)
+          (inv .0) (inv .8 made .0) p _ _ (within .0)
+          (rw (c .before .before .before .before .before .before .before .p .given .1) at
+          (c .before .before .before .before .before .before .before .before .before .sought .ensures .1 made)) (one .ensures .1 .0) in
+          (put, exact put (omega (arith, held, room, size))),
     )
 
 same-length-3 : tie.Need-same-length-3 Inv-loop μ-loop
@@ -229,7 +280,15 @@ returns-3 c =
     let inv = loop .inv in
     let all : loop .at ≡ given .end = omega (arith, inv .1) in (
       (omega (arith, inv .0), omega arith, inv .6),
-      λ made. record { forward = omega (arith, inv .0, inv .1); inside = omega arith; wrote = rw all at (inv .8 made .0); exact = rw all at (inv .8 made .1); fits = inv .6; full = λ h. absurd (omega arith) },
+      λ made. record {
+        forward = omega (arith, inv .0, inv .1);
+        inside = omega arith;
+        wrote = rw all at (inv .8 made .0);
+        exact = rw all at
+            (inv .8 made .1);
+        fits = inv .6;
+        full = λ h. absurd (omega arith);
+      },
     )
 
 pub fill-spec : {M : Type 1} → statement M

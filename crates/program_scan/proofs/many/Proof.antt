@@ -24,15 +24,27 @@ judge-requires c κs =
     let given = c .before .before .before .before .before .before .before .before .before .before .args in
     let pre = c .before .before .before .before .before .before .before .before .before .before .pre .1 .1 .1 in
     let here = c .before .before .before .before .before .distances .ensures .0 (omega (arith, pre .1 .0)) (pre .0 .0, below-none _) in
-    let later = c .before .before .before .distances2 .ensures .0 (omega (arith, pre .1 .0)) (pre .0 .1, below-none _) in
-    (here .0, (later .0, λ i h. (few (given .buffer .now) (c .before .before .before .before .before .distances .last .1 .1 .1 .0) (given .at) (given .marker) here i h, few (given .buffer .now) (c .before .before .before .distances2 .last .1 .1 .1 .0) (given .at + given .frame) (given .marker) later i h)))
+    let later = c .before .before .before .distances2 .ensures .0 (omega (arith, pre .1 .0)) (pre .0 .1, below-none _) in (
+      here .0,
+      (
+        later .0,
+        λ i h. (
+          few (given .buffer .now) (c .before .before .before .before .before .distances .last .1 .1 .1 .0) (given .at)
+              (given .marker) here i h,
+          few (given .buffer .now) (c .before .before .before .distances2 .last .1 .1 .1 .0) (given .at + given .frame)
+              (given .marker) later i h,
+        ),
+      ),
+    )
 
 put-many-requires : tie.Need-put-many-requires
 put-many-requires c κs =
     let given = c .before .before .before .before .before .before .before .before .before .before .before .before .before .before .before .args in
     let pre = c .before .before .before .before .before .before .before .before .before .before .before .before .before .before .before .pre .1 .1 .1 in
-    let here = c .before .before .before .before .before .before .before .before .before .before .distances .ensures .0 (omega (arith, pre .1 .0)) (pre .0 .0, below-none _) in
-    let later = c .before .before .before .before .before .before .before .before .distances2 .ensures .0 (omega (arith, pre .1 .0)) (pre .0 .1, below-none _) in
+    let here = c .before .before .before .before .before .before .before .before .before .before .distances .ensures .0 (omega (arith, pre .1 .0))
+    (pre .0 .0, below-none _) in
+    let later = c .before .before .before .before .before .before .before .before .distances2 .ensures .0 (omega (arith, pre .1 .0))
+    (pre .0 .1, below-none _) in
     let top = c .before .before .before .before .before .before .before .before .before .before .before .before .before .before .before .pre in
     let judge = c .before .before .before .before .judge in (
       top .0,
@@ -42,7 +54,9 @@ put-many-requires c κs =
           top .1 .1 .0,
           (
             judge .kept .1 .0 ∙ later .0,
-            plains (given .buffer .now) (c .before .before .before .before .before .before .before .before .before .before .distances .last .1 .1 .1 .0) (c .before .before .before .before .before .before .before .before .distances2 .last .1 .1 .1 .0) (judge .last .1 .0) (given .at) (given .marker) (given .tolerance) (given .frame) (pre .1 .1 .1) here later (judge .ensures),
+            plains (given .buffer .now) (c .before .before .before .before .before .before .before .before .before .before .distances .last .1 .1 .1 .0)
+                (c .before .before .before .before .before .before .before .before .distances2 .last .1 .1 .1 .0) (judge .last .1 .0) (given .at)
+                (given .marker) (given .tolerance) (given .frame) (pre .1 .1 .1) here later (judge .ensures),
           ),
         ),
       ),
@@ -59,7 +73,8 @@ returns c =
     let given = c .before .before .before .before .before .before .before .before .before .before .before .before .before .before .before .before .before .before .before .before .args in
     let pre = c .before .before .before .before .before .before .before .before .before .before .before .before .before .before .before .before .before .before .before .before .pre .1 .1 .1 in
     let here = c .before .before .before .before .before .before .before .before .before .before .before .before .before .before .before .distances .ensures .0 (omega (arith, pre .1 .0)) (pre .0 .0, below-none _) in
-    let later = c .before .before .before .before .before .before .before .before .before .before .before .before .before .distances2 .ensures .0 (omega (arith, pre .1 .0)) (pre .0 .1, below-none _) in
+    let later = c .before .before .before .before .before .before .before .before .before .before .before .before .before .distances2 .ensures .0
+    (omega (arith, pre .1 .0)) (pre .0 .1, below-none _) in
     let judge = c .before .before .before .before .before .before .before .before .before .judge in
     let put = c .before .before .before .before .put-many in (
       put .ensures .0,

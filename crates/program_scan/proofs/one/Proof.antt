@@ -39,8 +39,14 @@ returns c =
     let begun = c .before .before .before .before .before .before .before .before .before .before .before .begin in
     let put = c .before .before .before .before .before .before .put-line in
     let again = c .before .before .begin2 in
-    let wrote = rw (begun .ensures .1) at (put .ensures .0 (given .number) (given .first) (given .second) (begun .ensures .0) (small .0) (small .1) refl) in
-    (again .ensures .0, (rw (again .ensures .1) (said-as (one-line (met (given .number) (given .first) (given .second))) wrote), omega (arith, again .ensures .1, put .ensures .1, begun .ensures .1)))
+    let wrote = rw (begun .ensures .1) at (put .ensures .0 (given .number) (given .first) (given .second) (begun .ensures .0) (small .0) (small .1) refl) in (
+      again .ensures .0,
+      (
+        rw (again .ensures .1) (said-as (one-line (met (given .number) (given .first) (given .second))) wrote),
+        omega
+            (arith, again .ensures .1, put .ensures .1, begun .ensures .1),
+      ),
+    )
 
 pub one-spec : {M : Type 1} → statement M
 one-spec =

@@ -25,8 +25,16 @@ abbrev μ-loop : tie.MeasureT-loop
 loop-holds : tie.Need-loop-holds Inv-loop μ-loop
 loop-holds c =
     let given = c .before .before .before .args in
-    let none : given .from / 32 ≡ 0 = omega arith in
-    (omega arith, omega arith, refl, refl, rw (none, add-zero (given .number)) (c .before .before .before .pre .0), rw none (said-as (tolds-none (given .codes .now) (given .from) (given .number)) (no-more (given .block .now) (given .pen .held))), omega arith)
+    let none : given .from / 32 ≡ 0 = omega arith in (
+      omega arith,
+      omega arith,
+      refl,
+      refl,
+      rw (none, add-zero (given .number)) (c .before .before .before .pre .0),
+      rw none
+          (said-as (tolds-none (given .codes .now) (given .from) (given .number)) (no-more (given .block .now) (given .pen .held))),
+      omega arith,
+    )
 
 mul-put-position : tie.Need-mul-put-position Inv-loop μ-loop
 mul-put-position c = search needs

@@ -51,8 +51,11 @@ limit-requires c κs = search needs
 
 returns-8 : tie.Need-returns-8
 returns-8 c =
-    let given = c .before .before .before .before .before .before .before .before .before .before .before .args in
-    (omega arith, λ a t made few w room. none (given .marker) (given .tolerance) (given .frame) (given .from) (given .count) (given .window .now) (given .scan) (given .block .now) room (rw (c .before .limit .ensures) at (c .if8 .taken)))
+    let given = c .before .before .before .before .before .before .before .before .before .before .before .args in (
+      omega arith,
+      λ a t made few w room. none (given .marker) (given .tolerance) (given .frame) (given .from) (given .count) (given .window .now)
+          (given .scan) (given .block .now) room (rw (c .before .limit .ensures) at (c .if8 .taken)),
+    )
 
 slice-aggregate-fill : tie.Need-slice-aggregate-fill
 slice-aggregate-fill c =
@@ -68,7 +71,8 @@ mul-fill c = search needs
 fill-requires : tie.Need-fill-requires
 fill-requires c κs =
     let given = c .before .before .before .before .before .before .before .before .before .before .before .before .before .args in
-    let size : length (take (given .scan .filled) (given .window .now)) ≡ given .scan .filled = length-take-le (given .scan .filled) (given .window .now) (omega arith) in
+    let size : length (take (given .scan .filled) (given .window .now))
+    ≡ given .scan .filled = length-take-le (given .scan .filled) (given .window .now) (omega arith) in
     let limit = c .before .before .before .limit .ensures in
     (omega arith, (omega arith, (omega (arith, size, limit), (omega (arith, size), omega arith))))
 
@@ -81,7 +85,9 @@ returns-9 c =
     let fill = c .before .before .before .before .fill in
     let end = c .before .before .before .before .before .before .before .before .limit .ensures in (
       fill .ensures .0 .2,
-      λ a t made few w room. to-the-end (given .marker) (given .tolerance) (given .frame) (given .from) (given .count) (given .window .now) (given .scan) (given .block .now) room (fill .last .0) (fill .result .held) (fill .result .at) (rw end at (fill .ensures .1 made)) _ (c .if9 .taken) (eqb-true _ _ (c .if9 .taken) ∙ end),
+      λ a t made few w room. to-the-end (given .marker) (given .tolerance) (given .frame) (given .from) (given .count) (given .window .now) (given .scan)
+          (given .block .now) room (fill .last .0) (fill .result .held) (fill .result .at) (rw end at (fill .ensures .1 made)) _ (c .if9 .taken)
+          (eqb-true _ _ (c .if9 .taken) ∙ end),
     )
 
 same-length-2 : tie.Need-same-length-2
@@ -92,9 +98,12 @@ returns-10 c =
     let given = c .before .before .before .before .before .before .before .before .before .before .before .before .before .before .before .before .before .before .args in
     let fill = c .before .before .before .before .fill in
     let end = c .before .before .before .before .before .before .before .before .limit .ensures in
-    let short = less (fill .result .at) (c .before .before .before .before .before .before .before .before .limit .result) (fill .ensures .0 .1) (eqb-false _ _ (c .if9 .left)) in (
+    let short = less (fill .result .at) (c .before .before .before .before .before .before .before .before .limit .result) (fill .ensures .0 .1)
+    (eqb-false _ _ (c .if9 .left)) in (
       fill .ensures .0 .2,
-      λ a t made few w room. part-of-it (given .marker) (given .tolerance) (given .frame) (given .from) (given .count) (given .window .now) (given .scan) (given .block .now) room (fill .last .0) (fill .result .held) (fill .result .at) (rw end at (fill .ensures .1 made)) _ (c .if9 .left) (rw end at short),
+      λ a t made few w room. part-of-it (given .marker) (given .tolerance) (given .frame) (given .from) (given .count) (given .window .now) (given .scan)
+          (given .block .now) room (fill .last .0) (fill .result .held) (fill .result .at) (rw end at (fill .ensures .1 made)) _ (c .if9 .left)
+          (rw end at short),
     )
 
 pub put-lines-spec : {M : Type 1} → statement M

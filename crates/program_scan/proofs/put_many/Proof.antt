@@ -23,8 +23,15 @@ abbrev μ-loop : tie.MeasureT-loop
 
 loop-holds : tie.Need-loop-holds Inv-loop μ-loop
 loop-holds c =
-    let given = c .before .before .before .args in
-    (omega arith, refl, refl, rw (add-zero (given .number)) (c .before .before .before .pre .0), said-as (all-none (given .codes .now) (given .number)) (no-more (given .block .now) (given .pen .held)), omega arith)
+    let given = c .before .before .before .args in (
+      omega arith,
+      refl,
+      refl,
+      rw (add-zero (given .number)) (c .before .before .before .pre .0),
+      said-as (all-none (given .codes .now) (given .number))
+          (no-more (given .block .now) (given .pen .held)),
+      omega arith,
+    )
 
 mul-put-byte : tie.Need-mul-put-byte Inv-loop μ-loop
 mul-put-byte c = search needs

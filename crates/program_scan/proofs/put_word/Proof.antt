@@ -21,7 +21,13 @@ abbrev μ-loop : tie.MeasureT-loop
 μ-loop block₀ at word count rest₀ i₀ block rest i = count - i
 
 loop-holds : tie.Need-loop-holds Inv-loop μ-loop
-loop-holds c = (search needs, search needs, paste-zero (c .args .block .now) (c .args .at) (little (c .args .count) (c .args .word)), ap (λ (k : ℕ). little k (c .args .word)) (sym (sub-zero (c .args .count))))
+loop-holds c = (
+  search needs,
+  search needs,
+  paste-zero (c .args .block .now) (c .args .at) (little (c .args .count) (c .args .word)),
+  ap
+      (λ (k : ℕ). little k (c .args .word)) (sym (sub-zero (c .args .count))),
+)
 
 cast-block : tie.Need-cast-block Inv-loop μ-loop
 cast-block c = search needs

@@ -24,7 +24,8 @@ same-length c = search needs
 
 returns : tie.Need-returns
 unfolding codes
-returns c = said-as (sym (byte-apart _ _ (search needs))) (then (c .before .before .before .before .before .before .before .put .ensures) (c .before .before .put-hex-bytes .ensures))
+returns c = said-as (sym (byte-apart _ _ (search needs)))
+    (then (c .before .before .before .before .before .before .before .put .ensures) (c .before .before .put-hex-bytes .ensures))
 
 slice-aggregate-put-hex-bytes-2 : tie.Need-slice-aggregate-put-hex-bytes-2
 slice-aggregate-put-hex-bytes-2 c = search needs

@@ -13,7 +13,8 @@ use Rattle.program_step.proofs.put_fields.Statement.{statement}
 use Rattle.program_step.proofs.put_fields.Tie as tie
 
 abbrev Inv-loop : tie.InvT-loop
-Inv-loop out₀ at kind count place step next₀ i₀ out next i = (i ≤ count) × (length out ≡ length out₀) × Wrote out₀ at (fields (field-of kind) i place step) out next
+Inv-loop out₀ at kind count place step next₀ i₀ out next i = (i ≤ count) × (length out ≡ length out₀) × Wrote out₀ at
+    (fields (field-of kind) i place step) out next
 
 abbrev μ-loop : tie.MeasureT-loop
 μ-loop out₀ at kind count place step next₀ i₀ out next i = count - i
@@ -47,7 +48,8 @@ loop-again c =
     let more : at .i + 1 ≡ suc (at .i) = omega arith in (
       search needs,
       search needs,
-      rw (more, ← fields-more (field-of (given .kind)) (at .i) (given .place) (given .step .now), ← c .before .before .before .byte .ensures) (then (at .inv .2) (c .before .before .put-field .ensures)),
+      rw (more, ← fields-more (field-of (given .kind)) (at .i) (given .place) (given .step .now), ← c .before .before .before .byte .ensures)
+          (then (at .inv .2) (c .before .before .put-field .ensures)),
     )
 
 same-length : tie.Need-same-length Inv-loop μ-loop

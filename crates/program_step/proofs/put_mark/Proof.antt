@@ -31,7 +31,8 @@ same-length-2 c = search needs
 
 returns-3 : tie.Need-returns-3
 unfolding codes
-returns-3 c = said-as (sym (mark-more _ (search needs) (search needs))) (then (c .before .before .before .before .before .before .before .put .ensures) (c .before .before .put-field .ensures))
+returns-3 c = said-as (sym (mark-more _ (search needs) (search needs)))
+    (then (c .before .before .before .before .before .before .before .put .ensures) (c .before .before .put-field .ensures))
 
 pub put-mark-spec : {M : Type 1} → statement M
 put-mark-spec =

@@ -44,7 +44,9 @@ same-length c = search needs
 returns : tie.Need-returns
 returns c =
     let trial = c .before .before .before .before .before .before .before .before .before in
-    put-plainly _ zeros (trial .put-plain .ensures) (sym (c .before .before .before .before .before .if1 .taken) ∙ c .before .before .before .before .before .before .says .ensures) (c .before .before .put .ensures)
+    put-plainly _ zeros (trial .put-plain .ensures)
+    (sym (c .before .before .before .before .before .if1 .taken) ∙ c .before .before .before .before .before .before .says .ensures)
+    (c .before .before .put .ensures)
 
 put-whole-requires : tie.Need-put-whole-requires
 put-whole-requires c κs = search needs
@@ -55,7 +57,8 @@ same-length-2 c = search needs
 returns-2 : tie.Need-returns-2
 returns-2 c =
     let trial = c .before .before .before .before .before .before .before .before in
-    put-wholly _ zeros (trial .put-plain .ensures) (sym (c .before .before .before .before .if1 .left) ∙ c .before .before .before .before .before .says .ensures) (c .before .before .put-whole .ensures)
+    put-wholly _ zeros (trial .put-plain .ensures)
+    (sym (c .before .before .before .before .if1 .left) ∙ c .before .before .before .before .before .says .ensures) (c .before .before .put-whole .ensures)
 
 pub put-step-spec : {M : Type 1} → statement M
 put-step-spec =

@@ -14,13 +14,15 @@ use Rattle.recording_rules.specs.declared.Recorded.{Recorded}
 use Rattle.record.proofs.write_recording.Statement.{statement}
 use Rattle.record.proofs.write_recording.Tie as tie
 
-room : (list out after : List ℕ) (r : Recorded) (n : ℕ) → (recorded-of r, after) ≡ recorded list out → r ≡ Recorded.Bytes n → length after ≡ length out → n ≤ length after
+room : (list out after : List ℕ) (r : Recorded) (n : ℕ) → (recorded-of r, after) ≡ recorded list out → r ≡ Recorded.Bytes n → length after ≡ length out
+    → n ≤ length after
 room list out after r n e t k =
     let h = in-room list out n (sym (ap (λ (p : definition.Recorded × List ℕ). p .0) e) ∙ ap recorded-of t) in
     omega arith
 
 has-room : (c : tie.After-known-told) → c .before .recorded .given .0 .0 ≤ length (c .before .before .before .before .«record» .last .1 .0)
-has-room c = room _ _ _ (c .before .before .before .before .«record» .result) _ (c .before .before .before .before .«record» .ensures) (c .before .recorded .given .1) (c .before .before .before .before .«record» .kept .1 .0)
+has-room c = room _ _ _ (c .before .before .before .before .«record» .result) _ (c .before .before .before .before .«record» .ensures)
+    (c .before .recorded .given .1) (c .before .before .before .before .«record» .kept .1 .0)
 
 slice-aggregate-record : tie.Need-slice-aggregate-record
 slice-aggregate-record c = search needs

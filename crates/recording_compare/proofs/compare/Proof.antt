@@ -28,9 +28,12 @@ told c =
     let start = w .before .before .before in
     let a = start .args in
     let k = start .fits in
-    ap (same (drop 32 (now (a .bytes)))) (trace-words (a .lo) (a .hi) (a .refused) (a .kind) (a .bits) _ _ (k .lo .fits) (c .before .marks .ensures) (c .held .ensures))
-    ∙ same-words (now (a .bytes)) (w .before .if1 .left) (w .word .result) (c .before .before .before .before .word2 .result) (c .before .before .before .word3 .result) (c .before .before .word4 .result)
-    (a .lo) (a .hi) (c .before .marks .result) (c .held .result) (omega (arith, w .word .ok)) (omega (arith, c .before .before .before .before .word2 .ok)) (omega (arith, c .before .before .before .word3 .ok)) (omega (arith, c .before .before .word4 .ok))
+    ap (same (drop 32 (now (a .bytes)))) (trace-words (a .lo) (a .hi) (a .refused) (a .kind) (a .bits) _ _ (k .lo .fits) (c .before .marks .ensures)
+    (c .held .ensures))
+    ∙ same-words (now (a .bytes)) (w .before .if1 .left) (w .word .result) (c .before .before .before .before .word2 .result)
+    (c .before .before .before .word3 .result) (c .before .before .word4 .result)
+    (a .lo) (a .hi) (c .before .marks .result) (c .held .result) (omega (arith, w .word .ok)) (omega (arith, c .before .before .before .before .word2 .ok))
+    (omega (arith, c .before .before .before .word3 .ok)) (omega (arith, c .before .before .word4 .ok))
     (k .lo .fits) (k .hi .fits) (omega (arith, c .before .marks .ok)) (omega (arith, c .held .ok))
     (w .word .ensures) (c .before .before .before .before .word2 .ensures) (c .before .before .before .word3 .ensures) (c .before .before .word4 .ensures)
 
@@ -43,5 +46,6 @@ returns-3 c = c .not-the-same2 .ensures ∙ rw (told (c .before .before) ∙ c .
 pub compare-spec : {M : Type 1} → statement M
 compare-spec =
     tie.close
-    (tie.spec (λ c κs. search needs) returns (λ c κs. search needs) (λ c κs. search needs) (λ c κs. search needs) (λ c κs. search needs) (λ c κs. search needs) (λ c κs. search needs)
+    (tie.spec (λ c κs. search needs) returns (λ c κs. search needs) (λ c κs. search needs) (λ c κs. search needs) (λ c κs. search needs)
+    (λ c κs. search needs) (λ c κs. search needs)
     returns-2 (λ c κs. search needs) returns-3)

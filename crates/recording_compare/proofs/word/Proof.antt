@@ -38,7 +38,8 @@ returns c =
 returns-2 : tie.Need-returns-2
 returns-2 c =
     let a = c .before .before .before .before .args in
-    never (now (a .bytes)) (a .at) (c .before .before .before .before .pre) (c .enum-told .given .0 .0) (rw (c .enum-told .given .1) at (c .before .before .fetch64 .ensures))
+    never (now (a .bytes)) (a .at) (c .before .before .before .before .pre) (c .enum-told .given .0 .0)
+    (rw (c .enum-told .given .1) at (c .before .before .fetch64 .ensures))
 
 pub word-spec : {M : Type 1} → statement M
 word-spec = tie.close (tie.spec (λ c κs. search needs) (λ c. search needs) (λ c. search needs) returns returns-2)

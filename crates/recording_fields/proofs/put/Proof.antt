@@ -17,7 +17,8 @@ use Rattle.recording_fields.proofs.put.Tie as tie
 -- the step, and a word after the other
 module _ (out s m₀ m₁ m₂ m₃ m₄ : List ℕ) (p q x y : ℕ) (long : length out ≡ 64) (step : length s ≡ 32) (e₀ : m₀ ≡ take (length s) s ++ drop (length s) out)
     (e₁ : m₁ ≡ with-number m₀ 32 8 p) (e₂ : m₂ ≡ with-number m₁ 40 8 q) (e₃ : m₃ ≡ with-number m₂ 48 8 x) (e₄ : m₄ ≡ with-number m₃ 56 8 y) where
-  after : (front rest : List ℕ) {before now : List ℕ} (at v : ℕ) → length front ≡ at → before ≡ front ++ rest → now ≡ with-number before at 8 v → now ≡ front ++ digits 8 8 v ++ drop 8 rest
+  after : (front rest : List ℕ) {before now : List ℕ} (at v : ℕ) → length front ≡ at → before ≡ front ++ rest → now ≡ with-number before at 8 v → now
+      ≡ front ++ digits 8 8 v ++ drop 8 rest
   after front rest at v l e f = f ∙ ap (λ (m : List ℕ). with-number m at 8 v) e ∙ written-after front rest at v l
 
   longer : (front : List ℕ) (v : ℕ) {n : ℕ} → length front ≡ n → length (front ++ digits 8 8 v) ≡ n + 8
@@ -52,11 +53,13 @@ returns c =
     let p = w₁ .before .before .before .before in
     let start = p .before .before .before .before .before .before in
     let a = start .args in
-    all-written (now (a .out)) (now (a .s)) (p .copy .last .1 .0) (w₁ .put-word .last .0) (w₂ .put-word2 .last .0) (w₃ .put-word3 .last .0) (k .put-word4 .last .0)
+    all-written (now (a .out)) (now (a .s)) (p .copy .last .1 .0) (w₁ .put-word .last .0) (w₂ .put-word2 .last .0) (w₃ .put-word3 .last .0)
+    (k .put-word4 .last .0)
     (a .lo) (a .hi) (w₃ .before .marks .result) (k .before .held .result) (p .before .before .before .if1 .taken) (p .before .before .if2 .taken)
     (p .copy .ensures .1) (w₁ .put-word .ensures) (w₂ .put-word2 .ensures) (w₃ .put-word3 .ensures) (k .put-word4 .ensures)
     ∙ rw (eq-eqb _ _ (p .before .before .before .if1 .taken), eq-eqb _ _ (p .before .before .if2 .taken))
-    (ap (λ (l : List ℕ). now (a .s) ++ l) (sym (trace-words (a .lo) (a .hi) (a .refused) (a .kind) (a .bits) _ _ (start .fits .lo .fits) (w₃ .before .marks .ensures) (k .before .held .ensures))))
+    (ap (λ (l : List ℕ). now (a .s) ++ l) (sym
+    (trace-words (a .lo) (a .hi) (a .refused) (a .kind) (a .bits) _ _ (start .fits .lo .fits) (w₃ .before .marks .ensures) (k .before .held .ensures))))
 
 returns-2 : tie.Need-returns-2
 returns-2 c = rw (eq-eqb _ _ (c .before .if1 .taken), ne-eqb _ _ (c .if2 .left))
@@ -67,5 +70,6 @@ returns-3 c = rw (ne-eqb _ _ (c .if1 .left))
 pub put-spec : {M : Type 1} → statement M
 put-spec =
     tie.close
-    (tie.spec (λ c κs. search needs) (λ c κs. search needs) (λ c κs. search needs) (λ c κs. search needs) (λ c κs. search needs) (λ c κs. search needs) (λ c κs. search needs)
+    (tie.spec (λ c κs. search needs) (λ c κs. search needs) (λ c κs. search needs) (λ c κs. search needs) (λ c κs. search needs) (λ c κs. search needs)
+    (λ c κs. search needs)
     (λ c. search needs) returns returns-2 returns-3)

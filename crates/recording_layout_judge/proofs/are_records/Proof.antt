@@ -32,13 +32,20 @@ returns : tie.Need-returns Inv-loop μ-loop
 returns c =
     let k = c .before .before .before .before in
     let a = k .before .before .before .args in
-    sym (fails (count (now (a .b))) (record-at-laid (a .n) (a .k) (now (a .b))) (k .loop .i) (omega arith) (sym (c .before .is-record .ensures ∙ long (record-in (now (a .b)) (k .loop .i)) (record-at-laid (a .n) (a .k) (now (a .b)) (k .loop .i)) (search needs)) ∙ not-true (c .before .is-record .result) (c .if1 .taken)))
+    sym (fails (count (now (a .b))) (record-at-laid (a .n) (a .k) (now (a .b))) (k .loop .i) (omega arith)
+    (sym (c .before .is-record .ensures ∙ long (record-in (now (a .b)) (k .loop .i)) (record-at-laid (a .n) (a .k) (now (a .b)) (k .loop .i))
+    (search needs)) ∙ not-true (c .before .is-record .result) (c .if1 .taken)))
 
 loop-again : tie.Need-loop-again Inv-loop μ-loop
 loop-again c =
     let k = c .before .before .before .before in
-    let a = k .before .before .before .args in
-    (refl, omega arith, passes (k .loop .i) (record-at-laid (a .n) (a .k) (now (a .b))) (k .loop .inv .2) (sym (c .before .is-record .ensures ∙ long (record-in (now (a .b)) (k .loop .i)) (record-at-laid (a .n) (a .k) (now (a .b)) (k .loop .i)) (search needs)) ∙ not-false (c .before .is-record .result) (c .if1 .left)))
+    let a = k .before .before .before .args in (
+      refl,
+      omega arith,
+      passes (k .loop .i) (record-at-laid (a .n) (a .k) (now (a .b))) (k .loop .inv .2)
+          (sym (c .before .is-record .ensures ∙ long (record-in (now (a .b)) (k .loop .i)) (record-at-laid (a .n) (a .k) (now (a .b)) (k .loop .i))
+          (search needs)) ∙ not-false (c .before .is-record .result) (c .if1 .left)),
+    )
 
 returns-2 : tie.Need-returns-2 Inv-loop μ-loop
 returns-2 c =
@@ -48,4 +55,6 @@ returns-2 c =
 pub are-records-spec : {M : Type 1} → statement M
 are-records-spec =
     tie.close
-    (tie.spec Inv-loop μ-loop (λ c. omega arith) (λ c. omega arith) loop-holds (λ c. omega arith) (λ c. omega arith) (λ c. omega arith) (λ c. omega arith) (λ c. omega arith) (λ c. omega arith) (λ c. omega arith) (λ c. omega arith) (λ c κs. search needs) returns (λ c. omega arith) (λ c. omega arith) loop-again returns-2)
+    (tie.spec Inv-loop μ-loop (λ c. omega arith) (λ c. omega arith) loop-holds (λ c. omega arith) (λ c. omega arith) (λ c. omega arith) (λ c. omega arith)
+    (λ c. omega arith) (λ c. omega arith) (λ c. omega arith) (λ c. omega arith) (λ c κs. search needs) returns (λ c. omega arith)
+    (λ c. omega arith) loop-again returns-2)

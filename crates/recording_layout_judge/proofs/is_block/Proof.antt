@@ -41,7 +41,9 @@ module _ (n k : ℕ) (b : List ℕ) where
         rest p = rw (eq-eqb _ _ e, h, eq-eqb _ _ z, p)
 
 -- what is known where the count has passed
-laid-count : (c : tie.Else2) → count-laid (c .before .before .before .before .before .before .before .before .args .n) (c .before .before .before .before .before .before .before .before .args .k) (count (now (c .before .before .before .before .before .before .before .before .args .b))) ≡ true
+laid-count : (c : tie.Else2) → count-laid (c .before .before .before .before .before .before .before .before .args .n)
+    (c .before .before .before .before .before .before .before .before .args .k)
+    (count (now (c .before .before .before .before .before .before .before .before .args .b))) ≡ true
 laid-count c = sym (c .before .is-count .ensures) ∙ not-false (c .before .is-count .result) (c .if2 .left)
 
 few : (c : tie.Else2) → count (now (c .before .before .before .before .before .before .before .before .args .b)) ≤ 7
@@ -56,7 +58,8 @@ returns-2 : tie.Need-returns-2
 returns-2 c =
     let k = c .before .before in
     let a = k .before .before .before .before .before .before .args in
-    sym (no-count (a .n) (a .k) (now (a .b)) (sym (k .before .number .ensures) ∙ k .if1 .left) (sym (c .before .is-count .ensures) ∙ not-true (c .before .is-count .result) (c .if2 .taken)))
+    sym (no-count (a .n) (a .k) (now (a .b)) (sym (k .before .number .ensures) ∙ k .if1 .left)
+    (sym (c .before .is-count .ensures) ∙ not-true (c .before .is-count .result) (c .if2 .taken)))
 
 returns-3 : tie.Need-returns-3
 returns-3 c =
@@ -86,6 +89,8 @@ returns-5 c =
 pub is-block-spec : {M : Type 1} → statement M
 is-block-spec =
     tie.close
-    (tie.spec (λ c. search needs) (λ c. search needs) (λ c. search needs) (λ c κs. search needs) returns (λ c κs. search needs) returns-2 (λ c. search needs) returns-3
-    (λ c. omega (arith, few (c .before .before))) (λ c. omega (arith, few (c .before .before))) (λ c. omega (arith, few (c .before .before))) (λ c. omega (arith, few (c .before .before))) (λ c. omega (arith, few (c .before .before)))
+    (tie.spec (λ c. search needs) (λ c. search needs) (λ c. search needs) (λ c κs. search needs) returns (λ c κs. search needs) returns-2
+    (λ c. search needs) returns-3
+    (λ c. omega (arith, few (c .before .before))) (λ c. omega (arith, few (c .before .before))) (λ c. omega (arith, few (c .before .before)))
+    (λ c. omega (arith, few (c .before .before))) (λ c. omega (arith, few (c .before .before)))
     (λ c. search needs) (λ c κs. search needs) returns-4 (λ c κs. omega (arith, few (c .before .before .before .before .before))) returns-5)

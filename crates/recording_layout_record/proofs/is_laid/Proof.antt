@@ -49,16 +49,21 @@ returns-3 : tie.Need-returns-3
 returns-3 c =
     let k = c .before .before .before in
     let a = k .before .before .before .before .before .args in
-    sym (gap (a .is-last) (now (a .r)) (k .before .if1 .left) (k .if2 .left) (sym (c .before .zeros .ensures) ∙ not-true (c .before .zeros .result) (c .if3 .taken)))
+    sym (gap (a .is-last) (now (a .r)) (k .before .if1 .left) (k .if2 .left)
+    (sym (c .before .zeros .ensures) ∙ not-true (c .before .zeros .result) (c .if3 .taken)))
 
 returns-4 : tie.Need-returns-4
 returns-4 c =
     let k = c .before .before .before .before .before .before in
     let a = k .before .before .before .before .before .args in
-    sym (rest (a .is-last) (now (a .r)) (k .before .if1 .left) (k .if2 .left) (sym (c .before .before .before .before .zeros .ensures) ∙ not-false (c .before .before .before .before .zeros .result) (c .before .before .before .if3 .left)) ∙ rw (c .before .before .is-wide .ensures, c .zeros2 .ensures))
+    sym (rest (a .is-last) (now (a .r)) (k .before .if1 .left) (k .if2 .left)
+    (sym (c .before .before .before .before .zeros .ensures)
+    ∙ not-false (c .before .before .before .before .zeros .result) (c .before .before .before .if3 .left))
+    ∙ rw (c .before .before .is-wide .ensures, c .zeros2 .ensures))
 
 pub is-laid-spec : {M : Type 1} → statement M
 is-laid-spec =
     tie.close
-    (tie.spec (λ c. search needs) (λ c. search needs) returns returns-2 (λ c. search needs) (λ c. search needs) (λ c. search needs) (λ c κs. search needs) returns-3
+    (tie.spec (λ c. search needs) (λ c. search needs) returns returns-2 (λ c. search needs) (λ c. search needs) (λ c. search needs)
+    (λ c κs. search needs) returns-3
     (λ c κs. search needs) (λ c. search needs) (λ c. search needs) (λ c. search needs) (λ c κs. search needs) returns-4)

@@ -24,16 +24,22 @@ returns c =
     let k = c .before .before in
     let p = k .before .before .before in
     let a = p .before .before .before .before .args in
-    rw (lt-ltb _ _ (k .if1 .taken), copied (now (a .b)) (now (a .out)) (p .before .before .before .before .pre .0) (p .before .before .before .before .pre .1) (p .copy .ensures .1))
+    rw (
+      lt-ltb _ _ (k .if1 .taken),
+      copied (now (a .b)) (now (a .out)) (p .before .before .before .before .pre .0)
+          (p .before .before .before .before .pre .1) (p .copy .ensures .1),
+    )
     (ap (λ (x : ℕ). set (now (a .b)) (a .bit / 8) (bitXor (getD (now (a .b)) (a .bit / 8) 0) x)) (c .mark .ensures))
 
 returns-2 : tie.Need-returns-2
 returns-2 c =
     let p = c .before .before .before in
     let a = p .before .before .before .before .args in
-    rw (le-ltb _ _ (c .if1 .left)) (copied (now (a .b)) (now (a .out)) (p .before .before .before .before .pre .0) (p .before .before .before .before .pre .1) (p .copy .ensures .1))
+    rw (le-ltb _ _ (c .if1 .left)) (copied (now (a .b)) (now (a .out)) (p .before .before .before .before .pre .0)
+    (p .before .before .before .before .pre .1) (p .copy .ensures .1))
 
 pub put-spec : {M : Type 1} → statement M
 put-spec =
     tie.close
-    (tie.spec (λ c κs. search needs) (λ c. search needs) (λ c. search needs) (λ c κs. search needs) (λ c. search needs) (λ c. search needs) returns (λ c. search needs) returns-2)
+    (tie.spec (λ c κs. search needs) (λ c. search needs) (λ c. search needs) (λ c κs. search needs) (λ c. search needs) (λ c. search needs) returns
+    (λ c. search needs) returns-2)

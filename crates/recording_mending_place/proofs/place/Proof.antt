@@ -25,7 +25,8 @@ returns-3 c =
     let i = c .before .before .before .before in
     let k = i .before in
     rw (eq-eqb _ _ (i .if1 .left))
-    (turns (now (k .before .args .b)) (known k (i .if1 .left)) (c .before .before .before .check .result) (c .before .walk .result) (c .before .before .before .check .ensures) (c .before .before .if2 .left)
+    (turns (now (k .before .args .b)) (known k (i .if1 .left)) (c .before .before .before .check .result) (c .before .walk .result)
+    (c .before .before .before .check .ensures) (c .before .before .if2 .left)
     (c .before .walk .ensures) (c .if3 .taken))
 
 returns-4 : tie.Need-returns-4
@@ -33,7 +34,8 @@ returns-4 c =
     let i = c .before .before .before .before in
     let k = i .before in
     rw (eq-eqb _ _ (i .if1 .left))
-    (fails (now (k .before .args .b)) (known k (i .if1 .left)) (c .before .before .before .check .result) (c .before .walk .result) (c .before .before .before .check .ensures) (c .before .before .if2 .left)
+    (fails (now (k .before .args .b)) (known k (i .if1 .left)) (c .before .before .before .check .result) (c .before .walk .result)
+    (c .before .before .before .check .ensures) (c .before .before .if2 .left)
     (c .before .walk .ensures) (c .if3 .left))
 
 pub place-spec : {M : Type 1} → statement M

@@ -39,7 +39,8 @@ miss q no-one =
     }
 
 returns : tie.Need-returns Inv-loop μ-loop
-returns c = hit (c .before .before .before .args .q) (c .before .before .loop .power) (c .before .before .loop .i) (omega arith) (c .before .before .loop .inv .1) (c .if1 .taken)
+returns c = hit (c .before .before .before .args .q) (c .before .before .loop .power) (c .before .before .loop .i) (omega arith)
+    (c .before .before .loop .inv .1) (c .if1 .taken)
 
 next-requires : tie.Need-next-requires Inv-loop μ-loop
 next-requires c κs = search needs

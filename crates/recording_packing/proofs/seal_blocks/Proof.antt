@@ -27,8 +27,11 @@ loop-holds c = (refl, omega arith, refl, refl)
 
 seal-block-requires : tie.Need-seal-block-requires Inv-loop μ-loop
 seal-block-requires c κs =
-    let l = c .before .before .before .loop in
-    (length-take-le (512 * l .k + 512 - 512 * l .k) (drop (512 * l .k) (l .out)) (simp length-drop (omega arith)) ∙ (let e : 512 * l .k + 512 - 512 * l .k ≡ 512 = omega arith in e), (omega arith, omega (arith, c .before .smaller .ensures)))
+    let l = c .before .before .before .loop in (
+      length-take-le (512 * l .k + 512 - 512 * l .k) (drop (512 * l .k) (l .out)) (simp length-drop (omega arith))
+          ∙ (let e : 512 * l .k + 512 - 512 * l .k ≡ 512 = omega arith in e),
+      (omega arith, omega (arith, c .before .smaller .ensures)),
+    )
 
 loop-again : tie.Need-loop-again Inv-loop μ-loop
 loop-again c =
@@ -55,9 +58,12 @@ returns c =
     let rs = standing (a .n) out₀ in
     let long = length-standing (a .n) out₀ (omega arith) in
     c .before .loop .inv .3
-    ∙ ap₂ (λ (i j : ℕ). packed-from i 0 rs ++ drop (512 * j) out₀) (let e : c .before .loop .k ≡ blocks-for (length rs) = omega arith in e) (let e : c .before .loop .k ≡ blocks-for (64 * a .n) = omega arith in e)
+    ∙ ap₂ (λ (i j : ℕ). packed-from i 0 rs ++ drop (512 * j) out₀) (let e : c .before .loop .k ≡ blocks-for (length rs) = omega arith in e)
+    (let e : c .before .loop .k ≡ blocks-for (64 * a .n) = omega arith in e)
 
 pub seal-blocks-spec : {M : Type 1} → statement M
 seal-blocks-spec =
     tie.close
-    (tie.spec Inv-loop μ-loop (λ c. omega arith) loop-holds (λ c. omega arith) (λ c. omega arith) (λ c. omega arith) (λ c. omega arith) (λ c κs. search needs) (λ c. omega arith) (λ c. omega arith) (λ c. omega arith) seal-block-requires (λ c. omega arith) (λ c. omega arith) loop-again same-length returns)
+    (tie.spec Inv-loop μ-loop (λ c. omega arith) loop-holds (λ c. omega arith) (λ c. omega arith) (λ c. omega arith) (λ c. omega arith)
+    (λ c κs. search needs) (λ c. omega arith) (λ c. omega arith) (λ c. omega arith) seal-block-requires (λ c. omega arith)
+    (λ c. omega arith) loop-again same-length returns)

@@ -52,15 +52,19 @@ loop-less c = search needs
 loop-again : tie.Need-loop-again Inv-loop μ-loop
 loop-again c =
     let loop = c .before .before .before .before .loop in
-    turned _ _ _ (loop .first) (loop .i) (c .combined .result) (loop .inv) (search needs) (c .before .before .slice-known2 .given (loop .i)) (c .before .shared-slice-known2 .given (loop .i)) (c .combined .ok) (c .combined .ensures)
+    turned _ _ _ (loop .first) (loop .i) (c .combined .result) (loop .inv) (search needs) (c .before .before .slice-known2 .given (loop .i))
+    (c .before .shared-slice-known2 .given (loop .i)) (c .combined .ok) (c .combined .ensures)
 
 same-length : tie.Need-same-length Inv-loop μ-loop
 same-length c = c .before .loop .inv .1 .0
 
 returns-2 : tie.Need-returns-2 Inv-loop μ-loop
 returns-2 c =
-    let unrefused = sym (c .before .before .before .judge .ensures) ∙ c .before .before .if1 .left in
-    (sym unrefused, all-turned _ _ (by-halves (c .before .before .before .before .before .before .args .op)) _ _ _ (c .before .loop .i) (fits _ _ unrefused .1) (search needs) (c .before .loop .inv))
+    let unrefused = sym (c .before .before .before .judge .ensures) ∙ c .before .before .if1 .left in (
+      sym unrefused,
+      all-turned _ _ (by-halves (c .before .before .before .before .before .before .args .op)) _ _ _ (c .before .loop .i)
+          (fits _ _ unrefused .1) (search needs) (c .before .loop .inv),
+    )
 
 pub combine-spec : {M : Type 1} → statement M
 combine-spec =

@@ -7,7 +7,8 @@ use Rattle.scan.proofs.run.Statement.{statement}
 use Rattle.scan.proofs.run.Tie as tie
 
 abbrev Inv-loop : tie.InvT-loop
-Inv-loop window₀ piece₀ table out₀ task course₀ left₀ window piece out course left = (length window ≡ length window₀) × (length piece ≡ length piece₀) × (length out ≡ length out₀)
+Inv-loop window₀ piece₀ table out₀ task course₀ left₀ window piece out course left = (length window ≡ length window₀) × (length piece ≡ length piece₀) ×
+    (length out ≡ length out₀)
 
 abbrev μ-loop : tie.MeasureT-loop
 μ-loop window₀ piece₀ table out₀ task course₀ left₀ window piece out course left = left

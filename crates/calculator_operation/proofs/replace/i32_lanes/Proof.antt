@@ -13,12 +13,28 @@ use Rattle.calculator_operation.proofs.replace.i32_lanes.Tie as tie
 returns : tie.Need-returns
 unfolding instruction table
 returns c =
-    rw (c .before .before .before .match .keys1, c .vector .ensures, c .before .i8x16-replace-lane .ensures, kept w8 (c .before .before .low8 .ok) refl, c .before .before .low8 .ensures, toZ-ofZ (c .before .before .before .before .fits .x))
+    rw (
+      c .before .before .before .match .keys1,
+      c .vector .ensures,
+      c .before .i8x16-replace-lane .ensures,
+      kept w8
+          (c .before .before .low8 .ok) refl,
+      c .before .before .low8 .ensures,
+      toZ-ofZ (c .before .before .before .before .fits .x),
+    )
 
 returns-2 : tie.Need-returns-2
 unfolding instruction table
 returns-2 c =
-    rw (c .before .before .before .match .keys2, c .vector2 .ensures, c .before .i16x8-replace-lane .ensures, kept w16 (c .before .before .low16 .ok) refl, c .before .before .low16 .ensures, toZ-ofZ (c .before .before .before .before .fits .x))
+    rw (
+      c .before .before .before .match .keys2,
+      c .vector2 .ensures,
+      c .before .i16x8-replace-lane .ensures,
+      kept w16
+          (c .before .before .low16 .ok) refl,
+      c .before .before .low16 .ensures,
+      toZ-ofZ (c .before .before .before .before .fits .x),
+    )
 
 returns-3 : tie.Need-returns-3
 unfolding instruction table

@@ -18,7 +18,8 @@ returns c =
 returns-2 : tie.Need-returns-2
 unfolding instruction table
 returns-2 c =
-    let e : toZ w64 (ofZ w64 (c .before .before .before .before .scalar2 .given .0 .0)) ≡ c .before .before .before .before .scalar2 .given .0 .0 = search needs in
+    let e : toZ w64 (ofZ w64 (c .before .before .before .before .scalar2 .given .0 .0))
+    ≡ c .before .before .before .before .scalar2 .given .0 .0 = search needs in
     rw (c .before .before .before .before .scalar2 .given .1, c .before .before .if1 .taken, c .vector .ensures, c .before .i64x2-replace-lane .ensures, e)
 
 pub replace-spec : {M : Type 1} → statement M

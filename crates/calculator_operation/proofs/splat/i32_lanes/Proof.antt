@@ -13,12 +13,26 @@ use Rattle.calculator_operation.proofs.splat.i32_lanes.Tie as tie
 returns : tie.Need-returns
 unfolding instruction table
 returns c =
-    rw (c .before .before .match .keys1, c .i8x16-splat .ensures, kept w8 (c .before .low8 .ok) refl, c .before .low8 .ensures, toZ-ofZ (c .before .before .before .fits .x))
+    rw (
+      c .before .before .match .keys1,
+      c .i8x16-splat .ensures,
+      kept w8 (c .before .low8 .ok) refl,
+      c .before .low8 .ensures,
+      toZ-ofZ
+          (c .before .before .before .fits .x),
+    )
 
 returns-2 : tie.Need-returns-2
 unfolding instruction table
 returns-2 c =
-    rw (c .before .before .match .keys2, c .i16x8-splat .ensures, kept w16 (c .before .low16 .ok) refl, c .before .low16 .ensures, toZ-ofZ (c .before .before .before .fits .x))
+    rw (
+      c .before .before .match .keys2,
+      c .i16x8-splat .ensures,
+      kept w16 (c .before .low16 .ok) refl,
+      c .before .low16 .ensures,
+      toZ-ofZ
+          (c .before .before .before .fits .x),
+    )
 
 returns-3 : tie.Need-returns-3
 unfolding instruction table

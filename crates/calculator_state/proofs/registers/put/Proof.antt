@@ -11,7 +11,8 @@ store-requires c κs = omega arith
 
 returns : tie.Need-returns
 returns c =
-    rw (c .store .ensures) (wrote (c .before .before .args .w .now) (c .before .before .args .register % 16) (c .before .before .args .v .lo) (c .before .before .args .v .hi) (omega arith))
+    rw (c .store .ensures) (wrote (c .before .before .args .w .now) (c .before .before .args .register % 16) (c .before .before .args .v .lo)
+    (c .before .before .args .v .hi) (omega arith))
 
 pub put-spec : {M : Type 1} → statement M
 put-spec = tie.close (tie.spec (λ c. search needs) (λ c. search needs) store-requires returns)

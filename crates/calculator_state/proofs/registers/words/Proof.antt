@@ -23,7 +23,8 @@ loop-again c =
     let l = c .before .before .before .before .loop in
     let all = c .before .before .before .before .before .args .t1 in
     let e : l .i % 16 ≡ l .i = omega arith in
-    let p : vectors (c .put .last .0) ≡ set (vectors (l .w)) (l .i) (getD (map number all) (l .i) 0) = c .put .ensures ∙ rw (e, ← List·getD-map number all (l .i) (record { lo = 0; hi = 0 })) in
+    let p : vectors (c .put .last .0) ≡ set (vectors (l .w)) (l .i) (getD (map number all) (l .i) 0) = c .put .ensures
+    ∙ rw (e, ← List·getD-map number all (l .i) (record { lo = 0; hi = 0 })) in
     let h : l .i < length (vectors (l .w)) = omega arith in
     let g : length all ≡ 16 = c .before .before .before .before .before .good .0 .1 .0 .1 in
     let k : l .i < length (map number all) = simp length-map (omega arith) in

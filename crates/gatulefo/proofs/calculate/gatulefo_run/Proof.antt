@@ -22,10 +22,13 @@ returns c =
     let at-words = at-scalar .before .before in
     let a = at-words .before .before .before .args in
     let e = at-run .run .result in
-    parts _ _ _ _ _ (c .before .before .words .ensures) (c .run-answer .ensures ∙ ap (λ (p : ℕ × ℕ). (p, e .done, stop-numbers (outcome-of (e .outcome)))) (c .before .kind-and-bits .ensures))
+    parts _ _ _ _ _ (c .before .before .words .ensures)
+    (c .run-answer .ensures ∙ ap (λ (p : ℕ × ℕ). (p, e .done, stop-numbers (outcome-of (e .outcome)))) (c .before .kind-and-bits .ensures))
     ∙ ap left-by-run
     (at-run .run .ensures
-    ∙ ap (run (now (a .list)) (a .place) (a .limit)) (machines _ (now (a .registers)) _ (at-scalar .scalar-of .result) (a .scalar .kind) (a .scalar .bits) (at-words .of-words .ensures) (at-scalar .scalar-of .ensures)))
+    ∙ ap (run (now (a .list)) (a .place) (a .limit))
+    (machines _ (now (a .registers)) _ (at-scalar .scalar-of .result) (a .scalar .kind) (a .scalar .bits) (at-words .of-words .ensures)
+    (at-scalar .scalar-of .ensures)))
 
 pub gatulefo-run-spec : {M : Type 1} → statement M
 gatulefo-run-spec =

@@ -14,7 +14,8 @@ returns : tie.Need-returns
 returns c =
     let a = c .before .before .before .args in
     c .vector-or-zero .ensures
-    ∙ ap or-zero (c .before .i8x16-shuffle .ensures ∙ ap (λ (s : List ℕ). at-indices s (shuffle s (number (a .a)) (number (a .b)))) (c .before .before .lanes8 .ensures))
+    ∙ ap or-zero (c .before .i8x16-shuffle .ensures
+    ∙ ap (λ (s : List ℕ). at-indices s (shuffle s (number (a .a)) (number (a .b)))) (c .before .before .lanes8 .ensures))
 
 pub gatulefo-value-i8x16-shuffle-spec : {M : Type 1} → statement M
 gatulefo-value-i8x16-shuffle-spec = tie.close (tie.spec nothing nothing nothing returns)

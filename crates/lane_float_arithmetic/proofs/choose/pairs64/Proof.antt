@@ -64,8 +64,13 @@ loop-less : tie.Need-loop-less Inv-loop μ-loop
 loop-less c = search needs
 
 loop-again : tie.Need-loop-again Inv-loop μ-loop
-loop-again c =
-    (search needs, turn 64 18 _ _ _ (with-idle (c .before .before .before .args .a) (c .before .before .before .args .b) (c .before .before .before .fits .a .fits) (c .before .before .before .fits .b .fits)) (with-idle (c .before .before .before .args .c) (c .before .before .before .args .d) (c .before .before .before .fits .c .fits) (c .before .before .before .fits .d .fits)) (search needs) (c .before .before .loop .inv .1) (c .arithmetic64 .ensures))
+loop-again c = (
+  search needs,
+  turn 64 18 _ _ _ (with-idle (c .before .before .before .args .a) (c .before .before .before .args .b)
+      (c .before .before .before .fits .a .fits) (c .before .before .before .fits .b .fits))
+      (with-idle (c .before .before .before .args .c) (c .before .before .before .args .d) (c .before .before .before .fits .c .fits)
+      (c .before .before .before .fits .d .fits)) (search needs) (c .before .before .loop .inv .1) (c .arithmetic64 .ensures),
+)
 
 lanes64-requires : tie.Need-lanes64-requires Inv-loop μ-loop
 lanes64-requires c κs = search needs
@@ -73,8 +78,12 @@ lanes64-requires c κs = search needs
 returns : tie.Need-returns Inv-loop μ-loop
 returns c =
     ap (joined 64) (c .lanes64 .ensures)
-    ∙ done 64 18 _ _ _ (with-idle (c .before .before .before .args .a) (c .before .before .before .args .b) (c .before .before .before .fits .a .fits) (c .before .before .before .fits .b .fits)) (with-idle (c .before .before .before .args .c) (c .before .before .before .args .d) (c .before .before .before .fits .c .fits) (c .before .before .before .fits .d .fits)) (c .before .before .loop .i) (search needs) (c .before .before .loop .inv .1)
-    ∙ ap₂ (binary 64 _) (joined-64 (c .before .before .before .args .a) (c .before .before .before .args .b) refl) (joined-64 (c .before .before .before .args .c) (c .before .before .before .args .d) refl)
+    ∙ done 64 18 _ _ _ (with-idle (c .before .before .before .args .a) (c .before .before .before .args .b) (c .before .before .before .fits .a .fits)
+    (c .before .before .before .fits .b .fits))
+    (with-idle (c .before .before .before .args .c) (c .before .before .before .args .d) (c .before .before .before .fits .c .fits)
+    (c .before .before .before .fits .d .fits)) (c .before .before .loop .i) (search needs) (c .before .before .loop .inv .1)
+    ∙ ap₂ (binary 64 _) (joined-64 (c .before .before .before .args .a) (c .before .before .before .args .b) refl)
+    (joined-64 (c .before .before .before .args .c) (c .before .before .before .args .d) refl)
 
 pub pairs64-spec : {M : Type 1} → statement M
 pairs64-spec = tie.close (tie.spec Inv-loop μ-loop array-write-x array-write-x-2 array-write-y array-write-y-2 loop-holds mul-arithmetic64 array-read-arithmetic64 mul-arithmetic64-2 array-read-arithmetic64-2 arithmetic64-requires mul-x array-write-x-3 add-i loop-less loop-again lanes64-requires returns)

@@ -20,7 +20,8 @@ unsigned16-requires : tie.Need-unsigned16-requires
 unsigned16-requires c κs = search needs
 
 returns : tie.Need-returns
-returns c = c .unsigned16 .ensures ∙ ap (modulo 16) (shift-kept w16 _ (signed-fits w16 _ (c .before .before .fits .x)) (kept w16 (c .before .signed16 .ok) (c .before .signed16 .ensures)))
+returns c = c .unsigned16 .ensures ∙ ap (modulo 16)
+    (shift-kept w16 _ (signed-fits w16 _ (c .before .before .fits .x)) (kept w16 (c .before .signed16 .ok) (c .before .signed16 .ensures)))
 
 pub shr-s16-spec : {M : Type 1} → statement M
 shr-s16-spec = tie.close (tie.spec signed16-requires cast-unsigned16 shr-unsigned16 unsigned16-requires returns)

@@ -20,7 +20,8 @@ unsigned32-requires : tie.Need-unsigned32-requires
 unsigned32-requires c κs = search needs
 
 returns : tie.Need-returns
-returns c = c .unsigned32 .ensures ∙ ap (modulo 32) (shift-kept w32 _ (signed-fits w32 _ (c .before .before .fits .x)) (kept w32 (c .before .signed32 .ok) (c .before .signed32 .ensures)))
+returns c = c .unsigned32 .ensures ∙ ap (modulo 32)
+    (shift-kept w32 _ (signed-fits w32 _ (c .before .before .fits .x)) (kept w32 (c .before .signed32 .ok) (c .before .signed32 .ensures)))
 
 pub shr-s32-spec : {M : Type 1} → statement M
 shr-s32-spec = tie.close (tie.spec signed32-requires cast-unsigned32 shr-unsigned32 unsigned32-requires returns)

@@ -20,7 +20,8 @@ unsigned64-requires : tie.Need-unsigned64-requires
 unsigned64-requires c κs = search needs
 
 returns : tie.Need-returns
-returns c = c .unsigned64 .ensures ∙ ap (modulo 64) (shift-kept w64 _ (signed-fits w64 _ (c .before .before .fits .x)) (kept w64 (c .before .signed64 .ok) (c .before .signed64 .ensures)))
+returns c = c .unsigned64 .ensures ∙ ap (modulo 64)
+    (shift-kept w64 _ (signed-fits w64 _ (c .before .before .fits .x)) (kept w64 (c .before .signed64 .ok) (c .before .signed64 .ensures)))
 
 pub shr-s64-spec : {M : Type 1} → statement M
 shr-s64-spec = tie.close (tie.spec signed64-requires cast-unsigned64 shr-unsigned64 unsigned64-requires returns)

@@ -20,7 +20,8 @@ unsigned8-requires : tie.Need-unsigned8-requires
 unsigned8-requires c κs = search needs
 
 returns : tie.Need-returns
-returns c = c .unsigned8 .ensures ∙ ap (modulo 8) (shift-kept w8 _ (signed-fits w8 _ (c .before .before .fits .x)) (kept w8 (c .before .signed8 .ok) (c .before .signed8 .ensures)))
+returns c = c .unsigned8 .ensures ∙ ap (modulo 8)
+    (shift-kept w8 _ (signed-fits w8 _ (c .before .before .fits .x)) (kept w8 (c .before .signed8 .ok) (c .before .signed8 .ensures)))
 
 pub shr-s8-spec : {M : Type 1} → statement M
 shr-s8-spec = tie.close (tie.spec signed8-requires cast-unsigned8 shr-unsigned8 unsigned8-requires returns)

@@ -25,7 +25,8 @@ same-length c = search needs
 
 returns : tie.Need-returns
 unfolding codes
-returns c = then (c .before .before .before .before .before .before .before .before .before .before .before .put-number .ensures) (then (c .before .before .before .before .before .before .before .put-stop .ensures) (c .before .before .put .ensures))
+returns c = then (c .before .before .before .before .before .before .before .before .before .before .before .put-number .ensures)
+    (then (c .before .before .before .before .before .before .before .put-stop .ensures) (c .before .before .put .ensures))
 
 pub put-call-spec : {M : Type 1} → statement M
 put-call-spec =

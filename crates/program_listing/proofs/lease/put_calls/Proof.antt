@@ -57,7 +57,9 @@ returns c =
     let fuel = l .inv .3 .0 in
     let one : fuel ≡ suc (fuel - 1) = omega (arith, l .inv .3 .1) in
     let rest = rw one at (l .inv .3 .2) in
-    rest _ _ (said-as (ended-call (fuel - 1) (now (a .list)) (l .at) (a .limit) (l .before) (machine (l .state)) (c .before .before .before .before .before .before .before .before .before .before .before .before .run .ensures) (rw (c .before .before .before .before .enum-told .given .1)))
+    rest _ _ (said-as (ended-call (fuel - 1) (now (a .list)) (l .at) (a .limit) (l .before) (machine (l .state))
+    (c .before .before .before .before .before .before .before .before .before .before .before .before .run .ensures)
+    (rw (c .before .before .before .before .enum-told .given .1)))
     (then (c .before .before .before .before .before .before .before .before .put-call .ensures) (c .before .before .put-listing .ensures)))
 
 enum-known-outcome : tie.Need-enum-known-outcome Inv-loop μ-loop
@@ -76,7 +78,9 @@ returns-2 c =
     let fuel = l .inv .3 .0 in
     let one : fuel ≡ suc (fuel - 1) = omega (arith, l .inv .3 .1) in
     let rest = rw one at (l .inv .3 .2) in
-    rest _ _ (said-as (stopped-call (fuel - 1) (now (a .list)) (l .at) (a .limit) (l .before) (machine (l .state)) (c .before .before .before .before .before .before .before .before .before .before .before .before .before .run .ensures) _ (rw (c .before .before .before .before .before .outcome .given .1)))
+    rest _ _ (said-as (stopped-call (fuel - 1) (now (a .list)) (l .at) (a .limit) (l .before) (machine (l .state))
+    (c .before .before .before .before .before .before .before .before .before .before .before .before .before .run .ensures) _
+    (rw (c .before .before .before .before .before .outcome .given .1)))
     (then (c .before .before .before .before .before .before .before .before .before .put-call .ensures) (c .before .before .put-listing2 .ensures)))
 
 enum-known-outcome-2 : tie.Need-enum-known-outcome-2 Inv-loop μ-loop
@@ -95,14 +99,18 @@ returns-3 c =
     let fuel = l .inv .3 .0 in
     let one : fuel ≡ suc (fuel - 1) = omega (arith, l .inv .3 .1) in
     let rest = rw one at (l .inv .3 .2) in
-    rest _ _ (said-as (only-call (fuel - 1) (now (a .list)) (l .at) (a .limit) (l .before) (machine (l .state)) (c .before .before .before .before .before .before .before .before .before .before .before .before .before .before .run .ensures) _ (ap outcome-of (c .before .before .before .before .before .before .outcome2 .given .1)) (omega arith))
+    rest _ _ (said-as (only-call (fuel - 1) (now (a .list)) (l .at) (a .limit) (l .before) (machine (l .state))
+    (c .before .before .before .before .before .before .before .before .before .before .before .before .before .before .run .ensures) _
+    (ap outcome-of (c .before .before .before .before .before .before .outcome2 .given .1)) (omega arith))
     (then (c .before .before .before .before .before .before .before .before .before .before .put-call .ensures) (c .before .before .put-listing3 .ensures)))
 
 loop-less : tie.Need-loop-less Inv-loop μ-loop
 loop-less c =
     let l = c .before .before .before .before .before .before .before .before .before .before .before .loop in
     let a = c .before .before .before .before .before .before .before .before .before .before .before .before .before .before .before .args in
-    let m = moved (now (a .list)) (l .at) (a .limit) (l .state) (c .before .before .before .before .before .before .before .before .before .before .run .result) (c .before .before .before .before .before .before .before .before .before .before .run .ensures) _ (c .before .before .outcome2 .given .1) in
+    let m = moved (now (a .list)) (l .at) (a .limit) (l .state)
+    (c .before .before .before .before .before .before .before .before .before .before .run .result)
+    (c .before .before .before .before .before .before .before .before .before .before .run .ensures) _ (c .before .before .outcome2 .given .1) in
     omega (arith, m .there, m .more, c .if1 .left)
 
 loop-again : tie.Need-loop-again Inv-loop μ-loop
@@ -112,15 +120,21 @@ loop-again c =
     let fuel = l .inv .3 .0 in
     let one : fuel ≡ suc (fuel - 1) = omega (arith, l .inv .3 .1) in
     let rest = rw one at (l .inv .3 .2) in
-    let m = moved (now (a .list)) (l .at) (a .limit) (l .state) (c .before .before .before .before .before .before .before .before .before .before .run .result) (c .before .before .before .before .before .before .before .before .before .before .run .ensures) _ (c .before .before .outcome2 .given .1) in
-    let b = below (now (a .list)) (l .at) (a .limit) (l .state) (c .before .before .before .before .before .before .before .before .before .before .run .result) (c .before .before .before .before .before .before .before .before .before .before .run .ensures) _ (c .before .before .outcome2 .given .1) in (
+    let m = moved (now (a .list)) (l .at) (a .limit) (l .state)
+    (c .before .before .before .before .before .before .before .before .before .before .run .result)
+    (c .before .before .before .before .before .before .before .before .before .before .run .ensures) _ (c .before .before .outcome2 .given .1) in
+    let b = below (now (a .list)) (l .at) (a .limit) (l .state)
+    (c .before .before .before .before .before .before .before .before .before .before .run .result)
+    (c .before .before .before .before .before .before .before .before .before .before .run .ensures) _ (c .before .before .outcome2 .given .1) in (
       omega (arith, m .there, m .all-done),
       omega (arith, m .there, m .more),
       search needs,
       (
         fuel - 1,
         omega (arith, m .there, m .more, b, l .inv .3 .1, c .if1 .left),
-        λ left r p. rest left r (said-as (next-call (fuel - 1) (now (a .list)) (l .at) (a .limit) (l .before) (machine (l .state)) (c .before .before .before .before .before .before .before .before .before .before .run .ensures) _ (rw (c .before .before .outcome2 .given .1)) (λ z. omega (arith, c .if1 .left)))
+        λ left r p. rest left r (said-as (next-call (fuel - 1) (now (a .list)) (l .at) (a .limit) (l .before) (machine (l .state))
+            (c .before .before .before .before .before .before .before .before .before .before .run .ensures) _ (rw (c .before .before .outcome2 .given .1))
+            (λ z. omega (arith, c .if1 .left)))
             (then (c .before .before .before .before .before .before .put-call .ensures) p)),
       ),
     )

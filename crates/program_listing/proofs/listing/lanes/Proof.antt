@@ -22,7 +22,8 @@ returns : tie.Need-returns
 unfolding lanes-text
 returns c =
     let ran = rw (c .before .before .before .before .before .zero .ensures) at (c .before .before .before .before .run .ensures) in
-    filled (lanes-within (c .before .before .before .before .before .before .before .args .list .now)) (search needs) (rw (← ran, ← c .before .refused-by .ensures) (c .put-listing .ensures))
+    filled (lanes-within (c .before .before .before .before .before .before .before .args .list .now)) (search needs)
+    (rw (← ran, ← c .before .refused-by .ensures) (c .put-listing .ensures))
 
 pub lanes-spec : {M : Type 1} → statement M
 lanes-spec =

@@ -14,7 +14,8 @@ use Rattle.program_listing.proofs.listing.put_registers.Tie as tie
 
 abbrev Inv-loop : tie.InvT-loop
 Inv-loop out₀ at all writers next₀ i₀ out next i =
-    (i ≤ 16) × (length out ≡ length out₀) × Completes out₀ at (register-lines 0 (map number all) writers) out next (register-lines i (drop i (map number all)) (drop i writers))
+    (i ≤ 16) × (length out ≡ length out₀) × Completes out₀ at (register-lines 0 (map number all) writers) out next
+    (register-lines i (drop i (map number all)) (drop i writers))
 
 abbrev μ-loop : tie.MeasureT-loop
 μ-loop out₀ at all writers next₀ i₀ out next i = 16 - i
@@ -51,8 +52,12 @@ loop-again c =
     let at = c .before .before .before .before .before .before .loop in
     let vs = c .before .before .before .before .before .before .before .before .args .t3 in
     let ws = c .before .before .before .before .before .before .before .before .args .t4 in
-    let line = rw (← List·getD-map number vs (at .i) (record { lo = 0; hi = 0 })) at (c .before .before .put-register .ensures) in
-    (search needs, search needs, λ left r p. at .inv .2 left r (said-as (one-register (map number vs) ws (at .i) (simp length-map (search needs)) (search needs)) (then line p)))
+    let line = rw (← List·getD-map number vs (at .i) (record { lo = 0; hi = 0 })) at (c .before .before .put-register .ensures) in (
+      search needs,
+      search needs,
+      λ left r p. at .inv .2 left r
+          (said-as (one-register (map number vs) ws (at .i) (simp length-map (search needs)) (search needs)) (then line p)),
+    )
 
 same-length : tie.Need-same-length Inv-loop μ-loop
 same-length c = search needs
@@ -60,7 +65,8 @@ same-length c = search needs
 returns : tie.Need-returns Inv-loop μ-loop
 returns c =
     let at = c .before .loop in
-    at .inv .2 _ _ (said-as (no-registers (map number (c .before .before .before .args .t3)) (c .before .before .before .args .t4) (at .i) (simp length-map (omega arith))) (no-more _ _))
+    at .inv .2 _ _ (said-as (no-registers (map number (c .before .before .before .args .t3)) (c .before .before .before .args .t4) (at .i)
+    (simp length-map (omega arith))) (no-more _ _))
 
 pub put-registers-spec : {M : Type 1} → statement M
 put-registers-spec =

@@ -49,28 +49,32 @@ same-length c = search needs
 
 returns : tie.Need-returns
 unfolding scalar-line codes
-returns c = rw (← c .before .before .before .before .before .before .before .bits .ensures) (rw (c .before .before .before .before .before .enum-told .given .1) (c .before .before .put-narrow .ensures))
+returns c = rw (← c .before .before .before .before .before .before .before .bits .ensures)
+    (rw (c .before .before .before .before .before .enum-told .given .1) (c .before .before .put-narrow .ensures))
 
 same-length-2 : tie.Need-same-length-2
 same-length-2 c = search needs
 
 returns-2 : tie.Need-returns-2
 unfolding scalar-line codes
-returns-2 c = rw (← c .before .before .before .before .before .before .before .bits .ensures) (rw (c .before .before .before .before .before .enum-told2 .given .1) (c .before .before .put-wide .ensures))
+returns-2 c = rw (← c .before .before .before .before .before .before .before .bits .ensures)
+    (rw (c .before .before .before .before .before .enum-told2 .given .1) (c .before .before .put-wide .ensures))
 
 same-length-3 : tie.Need-same-length-3
 same-length-3 c = search needs
 
 returns-3 : tie.Need-returns-3
 unfolding scalar-line codes
-returns-3 c = rw (← c .before .before .before .before .before .before .before .bits .ensures) (rw (c .before .before .before .before .before .enum-told3 .given .1) (c .before .before .put-narrow2 .ensures))
+returns-3 c = rw (← c .before .before .before .before .before .before .before .bits .ensures)
+    (rw (c .before .before .before .before .before .enum-told3 .given .1) (c .before .before .put-narrow2 .ensures))
 
 same-length-4 : tie.Need-same-length-4
 same-length-4 c = search needs
 
 returns-4 : tie.Need-returns-4
 unfolding scalar-line codes
-returns-4 c = rw (← c .before .before .before .before .before .before .before .bits .ensures) (rw (c .before .before .before .before .before .enum-told4 .given .1) (c .before .before .put-wide2 .ensures))
+returns-4 c = rw (← c .before .before .before .before .before .before .before .bits .ensures)
+    (rw (c .before .before .before .before .before .enum-told4 .given .1) (c .before .before .put-wide2 .ensures))
 
 pub put-scalar-spec : {M : Type 1} → statement M
 put-scalar-spec =

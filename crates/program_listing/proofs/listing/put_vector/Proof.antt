@@ -17,7 +17,8 @@ same-length c = search needs
 returns : tie.Need-returns
 returns c =
     let v = c .before .before .before .before .before .before .before .before .before .args .v in
-    said-as (both-halves (v .lo) (v .hi) (search needs)) (then (c .before .before .before .before .before .before .put-half .ensures) (c .before .before .put-half2 .ensures))
+    said-as (both-halves (v .lo) (v .hi) (search needs))
+    (then (c .before .before .before .before .before .before .put-half .ensures) (c .before .before .put-half2 .ensures))
 
 pub put-vector-spec : {M : Type 1} → statement M
 put-vector-spec = tie.close (tie.spec put-half-requires put-half-requires-2 same-length returns)

@@ -16,9 +16,11 @@ returns c =
     let after = held (k .step .last .0) (k .step .last .1 .0) (k .step .result .scalar) in
     let kind = c .before .kind-byte .ensures ∙ ap kind-byte (c .before .before .kind .ensures) in
     let kept : (k .step .result .refused ≡ 0 → ⊥) → after ≡ m = λ ne. (let l = k .step .ensures .1 ne in rw (l .0, l .1, l .2)) in (
-      traced (a .place) m after (now (a .s)) (k .step .result .refused) _ _ _ (k .step .ensures .0) kept (c .before .before .before .written .ensures) kind (c .bits .ensures),
+      traced (a .place) m after (now (a .s)) (k .step .result .refused) _ _ _ (k .step .ensures .0) kept (c .before .before .before .written .ensures) kind
+          (c .bits .ensures),
       (
-        goes-on (a .place) m after (now (a .s)) (k .step .result .refused) _ _ _ (k .step .ensures .0) kept (c .before .before .before .written .ensures) kind (c .bits .ensures),
+        goes-on (a .place) m after (now (a .s)) (k .step .result .refused) _ _ _ (k .step .ensures .0) kept
+            (c .before .before .before .written .ensures) kind (c .bits .ensures),
         k .step .ensures .0,
       ),
     )

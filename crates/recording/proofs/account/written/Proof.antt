@@ -15,7 +15,8 @@ use Rattle.calculator_state.specs.State.{vectors}
 use Rattle.recording.proofs.account.written.Statement.{statement}
 use Rattle.recording.proofs.account.written.Tie as tie
 
-gives : (v : Bool) (x : Shape) (op : ℕ) (s : List ℕ) → v ≡ profile-of x .gives-vector → x ≡ shape (instruction op) → op ≡ operation s → profile (instruction (operation s)) .gives-vector ≡ v
+gives : (v : Bool) (x : Shape) (op : ℕ) (s : List ℕ) → v ≡ profile-of x .gives-vector → x ≡ shape (instruction op) → op ≡ operation s
+    → profile (instruction (operation s)) .gives-vector ≡ v
 gives v x op s e d o = sym (e ∙ rw (d, o) (ap (λ (p : Profile). p .gives-vector) (profile-kept (instruction (operation s)))))
 
 returns : tie.Need-returns
@@ -26,14 +27,17 @@ returns-2 c =
     let k = c .before .before in
     let d = k .before .before in
     let a = d .before .before .before .before .args in
-    let v = gives (k .before .gives-vector .result) (d .decide .result) (d .before .operation .result) (now (a .s)) (k .before .gives-vector .ensures) (d .decide .ensures) (d .before .operation .ensures) in
-    rw (eq-eqb _ _ (d .before .before .if1 .left), v, k .if2 .taken) (c .get .ensures ∙ ap (λ (x : ℕ). getD (vectors (now (a .w))) (x % 16) 0) (c .before .byte .ensures))
+    let v = gives (k .before .gives-vector .result) (d .decide .result) (d .before .operation .result) (now (a .s)) (k .before .gives-vector .ensures)
+    (d .decide .ensures) (d .before .operation .ensures) in
+    rw (eq-eqb _ _ (d .before .before .if1 .left), v, k .if2 .taken)
+    (c .get .ensures ∙ ap (λ (x : ℕ). getD (vectors (now (a .w))) (x % 16) 0) (c .before .byte .ensures))
 
 returns-3 : tie.Need-returns-3
 returns-3 c =
     let d = c .before .before in
     let a = d .before .before .before .before .args in
-    let v = gives (c .before .gives-vector .result) (d .decide .result) (d .before .operation .result) (now (a .s)) (c .before .gives-vector .ensures) (d .decide .ensures) (d .before .operation .ensures) in
+    let v = gives (c .before .gives-vector .result) (d .decide .result) (d .before .operation .result) (now (a .s)) (c .before .gives-vector .ensures)
+    (d .decide .ensures) (d .before .operation .ensures) in
     rw (eq-eqb _ _ (d .before .before .if1 .left), v, c .if2 .left)
 
 pub written-spec : {M : Type 1} → statement M

@@ -30,7 +30,8 @@ returns c =
     let a = c .before .before .before .before .before .before .before .before .args in
     let s = c .before .step in (
       omega arith,
-      count-last (length (now (a .list)) / 32) (l .at) (now (a .list)) (held (l .w) (l .writers) (l .scalar)) (omega arith) (omega arith) (s .result .refused) (held (s .last .0) (s .last .1 .0) (s .result .scalar)) (s .ensures .0) (c .if1 .taken)
+      count-last (length (now (a .list)) / 32) (l .at) (now (a .list)) (held (l .w) (l .writers) (l .scalar)) (omega arith) (omega arith)
+          (s .result .refused) (held (s .last .0) (s .last .1 .0) (s .result .scalar)) (s .ensures .0) (c .if1 .taken)
           ∙ l .inv .3,
     )
 
@@ -42,7 +43,8 @@ loop-again c =
       refl,
       omega arith,
       l .inv .2,
-      count-more (length (now (a .list)) / 32) (l .at) (now (a .list)) (held (l .w) (l .writers) (l .scalar)) (omega arith) (omega arith) (s .result .refused) (held (s .last .0) (s .last .1 .0) (s .result .scalar)) (s .ensures .0) (c .if1 .left)
+      count-more (length (now (a .list)) / 32) (l .at) (now (a .list)) (held (l .w) (l .writers) (l .scalar)) (omega arith) (omega arith)
+          (s .result .refused) (held (s .last .0) (s .last .1 .0) (s .result .scalar)) (s .ensures .0) (c .if1 .left)
           ∙ l .inv .3,
     )
 
@@ -55,4 +57,5 @@ returns-2 c =
 pub count-spec : {M : Type 1} → statement M
 count-spec =
     tie.close
-    (tie.spec Inv-loop μ-loop loop-holds (λ c. omega arith) (λ c. omega arith) (λ c. omega arith) (λ c. omega arith) (λ c. omega arith) (λ c. omega arith) nothing (λ c. omega arith) returns (λ c. omega arith) loop-again returns-2)
+    (tie.spec Inv-loop μ-loop loop-holds (λ c. omega arith) (λ c. omega arith) (λ c. omega arith) (λ c. omega arith) (λ c. omega arith)
+    (λ c. omega arith) nothing (λ c. omega arith) returns (λ c. omega arith) loop-again returns-2)

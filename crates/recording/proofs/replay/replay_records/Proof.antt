@@ -51,7 +51,8 @@ returns c =
     let file = now (a .file) in
     let m = held (l .w) (l .writers) (l .scalar) in
     let e = ap (compared (l .at) (record-at file (l .at))) (sym (k .account .ensures .0)) ∙ sym (c .before .compare .ensures) in
-    sym (sym (l .inv .1) ∙ replay-stop (a .n) (l .at) file m (omega arith) (answer-of (c .before .compare .result)) e (other (c .before .compare .result) (c .match .keys2)))
+    sym (sym (l .inv .1) ∙ replay-stop (a .n) (l .at) file m (omega arith) (answer-of (c .before .compare .result)) e
+    (other (c .before .compare .result) (c .match .keys2)))
 
 loop-again : tie.Need-loop-again Inv-loop μ-loop
 loop-again c =
@@ -62,8 +63,11 @@ loop-again c =
     let file = now (a .file) in
     let m = held (l .w) (l .writers) (l .scalar) in
     let e = ap (compared (l .at) (record-at file (l .at))) (sym (k .account .ensures .0)) ∙ sym (p .compare .ensures) ∙ ap answer-of (c .enum-told .given .1) in
-    let more = k .before .before .before .before .before .before .loop-test .taken in
-    (omega arith, ap (replay-from (a .n - (l .at + 1)) (l .at + 1) file) (k .account .ensures .1 .0) ∙ sym (replay-turn (a .n) (l .at) file m more e) ∙ l .inv .1)
+    let more = k .before .before .before .before .before .before .loop-test .taken in (
+      omega arith,
+      ap (replay-from (a .n - (l .at + 1)) (l .at + 1) file) (k .account .ensures .1 .0) ∙ sym (replay-turn (a .n) (l .at) file m more e)
+          ∙ l .inv .1,
+    )
 
 returns-2 : tie.Need-returns-2 Inv-loop μ-loop
 returns-2 c =
@@ -74,5 +78,8 @@ returns-2 c =
 pub replay-records-spec : {M : Type 1} → statement M
 replay-records-spec =
     tie.close
-    (tie.spec Inv-loop μ-loop loop-holds (λ c. omega arith) (λ c. omega arith) (λ c. omega arith) (λ c. omega arith) (λ c. omega arith) (λ c. omega arith) (λ c. omega arith) (λ c. omega arith) (λ c. omega arith) (λ c. omega arith) (λ c. omega arith) (λ c. omega arith)
-    slice-aggregate-account nothing (λ c. omega arith) nothing (λ c. search needs) returns (λ c. omega (arith, c .before .before .before .before .before .before .before .before .before .loop-test .taken)) (λ c. omega (arith, c .before .before .before .before .before .before .before .before .before .loop-test .taken)) loop-again returns-2)
+    (tie.spec Inv-loop μ-loop loop-holds (λ c. omega arith) (λ c. omega arith) (λ c. omega arith) (λ c. omega arith) (λ c. omega arith) (λ c. omega arith)
+    (λ c. omega arith) (λ c. omega arith) (λ c. omega arith) (λ c. omega arith) (λ c. omega arith) (λ c. omega arith)
+    slice-aggregate-account nothing (λ c. omega arith) nothing (λ c. search needs) returns
+    (λ c. omega (arith, c .before .before .before .before .before .before .before .before .before .loop-test .taken))
+    (λ c. omega (arith, c .before .before .before .before .before .before .before .before .before .loop-test .taken)) loop-again returns-2)

@@ -21,7 +21,8 @@ returns c =
     let r = c .pairs64 .result in
     joined-64 (getD r 0 0) (getD r 1 0) (sym (all-elements r 2 (search needs))) ∙ ap (joined 64) (all-elements r 2 (search needs))
     ∙ c .pairs64 .ensures
-    ∙ ap₂ (binary 64 _) (sym (joined-64 (c .before .args .self .lo) (c .before .args .self .hi) refl)) (sym (joined-64 (c .before .args .rhs .lo) (c .before .args .rhs .hi) refl))
+    ∙ ap₂ (binary 64 _) (sym (joined-64 (c .before .args .self .lo) (c .before .args .self .hi) refl))
+    (sym (joined-64 (c .before .args .rhs .lo) (c .before .args .rhs .hi) refl))
 
 pub arithmetic64-spec : {M : Type 1} → statement M
 arithmetic64-spec = tie.close (tie.spec pairs64-requires array-read-t8 array-read-t11 returns)

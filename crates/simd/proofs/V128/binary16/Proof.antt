@@ -50,13 +50,18 @@ loop-less : tie.Need-loop-less Inv-loop μ-loop
 loop-less c = search needs
 
 loop-again : tie.Need-loop-again Inv-loop μ-loop
-loop-again c = (search needs, turn 16 56 _ _ _ (c .before .before .before .before .places16 .ensures) (c .before .before .before .places162 .ensures) (search needs) (c .before .before .loop .inv .1) (c .binary16 .ensures))
+loop-again c = (
+  search needs,
+  turn 16 56 _ _ _ (c .before .before .before .before .places16 .ensures) (c .before .before .before .places162 .ensures)
+      (search needs) (c .before .before .loop .inv .1) (c .binary16 .ensures),
+)
 
 from-places16-requires : tie.Need-from-places16-requires Inv-loop μ-loop
 from-places16-requires c κs = search needs
 
 returns : tie.Need-returns Inv-loop μ-loop
-returns c = c .from-places16 .ensures ∙ done 16 56 _ _ _ (c .before .before .before .before .places16 .ensures) (c .before .before .before .places162 .ensures) (c .before .before .loop .i) (search needs) (c .before .before .loop .inv .1)
+returns c = c .from-places16 .ensures ∙ done 16 56 _ _ _ (c .before .before .before .before .places16 .ensures)
+    (c .before .before .before .places162 .ensures) (c .before .before .loop .i) (search needs) (c .before .before .loop .inv .1)
 
 pub binary16-spec : {M : Type 1} → statement M
 binary16-spec = tie.close (tie.spec Inv-loop μ-loop places16-requires places16-requires-2 loop-holds mul-binary16 array-read-binary16 mul-binary16-2 array-read-binary16-2 binary16-requires mul-a array-write-a add-i loop-less loop-again from-places16-requires returns)

@@ -20,7 +20,8 @@ returns : tie.Need-returns
 returns c =
     c .i32x4-mul .ensures
     ∙ ap₂ (binary 32 (imul 32)) (c .before .before .extend16 .ensures) (c .before .extend162 .ensures)
-    ∙ extmul-is 16 4 refl refl (c .before .before .before .args .signed) refl refl (c .before .before .before .args .high) (c .before .before .before .args .self) (c .before .before .before .args .rhs) (search needs) (search needs)
+    ∙ extmul-is 16 4 refl refl (c .before .before .before .args .signed) refl refl (c .before .before .before .args .high)
+    (c .before .before .before .args .self) (c .before .before .before .args .rhs) (search needs) (search needs)
 
 pub extmul16-spec : {M : Type 1} → statement M
 extmul16-spec = tie.close (tie.spec extend16-requires extend16-requires-2 i32x4-mul-requires returns)

@@ -20,7 +20,8 @@ returns : tie.Need-returns
 returns c =
     c .i64x2-mul .ensures
     ∙ ap₂ (binary 64 (imul 64)) (c .before .before .extend32 .ensures) (c .before .extend322 .ensures)
-    ∙ extmul-is 32 2 refl refl (c .before .before .before .args .signed) refl refl (c .before .before .before .args .high) (c .before .before .before .args .self) (c .before .before .before .args .rhs) (search needs) (search needs)
+    ∙ extmul-is 32 2 refl refl (c .before .before .before .args .signed) refl refl (c .before .before .before .args .high)
+    (c .before .before .before .args .self) (c .before .before .before .args .rhs) (search needs) (search needs)
 
 pub extmul32-spec : {M : Type 1} → statement M
 extmul32-spec = tie.close (tie.spec extend32-requires extend32-requires-2 i64x2-mul-requires returns)

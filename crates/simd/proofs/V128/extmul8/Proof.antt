@@ -20,7 +20,8 @@ returns : tie.Need-returns
 returns c =
     c .i16x8-mul .ensures
     ∙ ap₂ (binary 16 (imul 16)) (c .before .before .extend8 .ensures) (c .before .extend82 .ensures)
-    ∙ extmul-is 8 8 refl refl (c .before .before .before .args .signed) refl refl (c .before .before .before .args .high) (c .before .before .before .args .self) (c .before .before .before .args .rhs) (search needs) (search needs)
+    ∙ extmul-is 8 8 refl refl (c .before .before .before .args .signed) refl refl (c .before .before .before .args .high)
+    (c .before .before .before .args .self) (c .before .before .before .args .rhs) (search needs) (search needs)
 
 pub extmul8-spec : {M : Type 1} → statement M
 extmul8-spec = tie.close (tie.spec extend8-requires extend8-requires-2 i16x8-mul-requires returns)

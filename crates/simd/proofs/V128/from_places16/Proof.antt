@@ -45,7 +45,8 @@ join16-requires c κs = search needs
 returns : tie.Need-returns Inv-loop μ-loop
 returns c =
     c .join16 .ensures
-    ∙ ap (joined 16) (copy-done 8 (replicate 8 0) (c .before .before .before .args .t1) (search needs) (search needs) (c .before .before .loop .i) (search needs) (c .before .before .loop .inv .1) ∙ append-nil (take 8 (c .before .before .before .args .t1)))
+    ∙ ap (joined 16) (copy-done 8 (replicate 8 0) (c .before .before .before .args .t1) (search needs) (search needs) (c .before .before .loop .i)
+    (search needs) (c .before .before .loop .inv .1) ∙ append-nil (take 8 (c .before .before .before .args .t1)))
 
 pub from-places16-spec : {M : Type 1} → statement M
 from-places16-spec = tie.close (tie.spec Inv-loop μ-loop loop-holds mul-r array-read-r mul-r-2 array-write-r add-i loop-less loop-again join16-requires returns)

@@ -45,7 +45,8 @@ join32-requires c κs = search needs
 returns : tie.Need-returns Inv-loop μ-loop
 returns c =
     c .join32 .ensures
-    ∙ ap (joined 32) (copy-done 4 (replicate 4 0) (c .before .before .before .args .t1) (search needs) (search needs) (c .before .before .loop .i) (search needs) (c .before .before .loop .inv .1) ∙ append-nil (take 4 (c .before .before .before .args .t1)))
+    ∙ ap (joined 32) (copy-done 4 (replicate 4 0) (c .before .before .before .args .t1) (search needs) (search needs) (c .before .before .loop .i)
+    (search needs) (c .before .before .loop .inv .1) ∙ append-nil (take 4 (c .before .before .before .args .t1)))
 
 pub from-places32-spec : {M : Type 1} → statement M
 from-places32-spec = tie.close (tie.spec Inv-loop μ-loop loop-holds mul-r array-read-r mul-r-2 array-write-r add-i loop-less loop-again join32-requires returns)

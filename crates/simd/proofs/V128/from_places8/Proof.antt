@@ -31,7 +31,11 @@ loop-less : tie.Need-loop-less Inv-loop μ-loop
 loop-less c = search needs
 
 loop-again : tie.Need-loop-again Inv-loop μ-loop
-loop-again c = (search needs, copy-turn 16 (replicate 16 0) (c .before .before .args .t1) (search needs) (search needs) (search needs) (c .before .loop .inv .1))
+loop-again c = (
+  search needs,
+  copy-turn 16 (replicate 16 0) (c .before .before .args .t1) (search needs) (search needs) (search needs)
+      (c .before .loop .inv .1),
+)
 
 join8-requires : tie.Need-join8-requires Inv-loop μ-loop
 join8-requires c κs = search needs
@@ -39,7 +43,8 @@ join8-requires c κs = search needs
 returns : tie.Need-returns Inv-loop μ-loop
 returns c =
     c .join8 .ensures
-    ∙ ap (joined 8) (copy-done 16 (replicate 16 0) (c .before .before .before .args .t1) (search needs) (search needs) (c .before .before .loop .i) (search needs) (c .before .before .loop .inv .1) ∙ append-nil (take 16 (c .before .before .before .args .t1)))
+    ∙ ap (joined 8) (copy-done 16 (replicate 16 0) (c .before .before .before .args .t1) (search needs) (search needs) (c .before .before .loop .i)
+    (search needs) (c .before .before .loop .inv .1) ∙ append-nil (take 16 (c .before .before .before .args .t1)))
 
 pub from-places8-spec : {M : Type 1} → statement M
 from-places8-spec = tie.close (tie.spec Inv-loop μ-loop loop-holds array-read-r array-write-r add-i loop-less loop-again join8-requires returns)

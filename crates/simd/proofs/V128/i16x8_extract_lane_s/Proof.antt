@@ -15,7 +15,8 @@ wide16-requires : tie.Need-wide16-requires
 wide16-requires c κs = search needs
 
 returns : tie.Need-returns
-returns c = lane-taken 16 _ (c .before .before .if1 .taken) (ap (modulo 32) (kept w32 (c .wide16 .ok) (c .wide16 .ensures ∙ ap (signed 16) (c .before .lane16 .ensures))))
+returns c = lane-taken 16 _ (c .before .before .if1 .taken)
+    (ap (modulo 32) (kept w32 (c .wide16 .ok) (c .wide16 .ensures ∙ ap (signed 16) (c .before .lane16 .ensures))))
 
 returns-2 : tie.Need-returns-2
 returns-2 c = lane-refused 16 _ _ (c .if1 .left)

@@ -16,7 +16,8 @@ signed32-requires : tie.Need-signed32-requires
 signed32-requires c κs = search needs
 
 returns : tie.Need-returns
-returns c = lane-taken 32 _ (c .before .before .if1 .taken) (ap (modulo 32) (kept w32 (c .signed32 .ok) (c .signed32 .ensures)) ∙ modulo-signed w32 _ (search needs) ∙ c .before .lane32 .ensures)
+returns c = lane-taken 32 _ (c .before .before .if1 .taken)
+    (ap (modulo 32) (kept w32 (c .signed32 .ok) (c .signed32 .ensures)) ∙ modulo-signed w32 _ (search needs) ∙ c .before .lane32 .ensures)
 
 returns-2 : tie.Need-returns-2
 returns-2 c = lane-refused 32 _ _ (c .if1 .left)

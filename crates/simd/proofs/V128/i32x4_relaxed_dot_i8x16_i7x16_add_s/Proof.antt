@@ -23,4 +23,5 @@ returns c =
     (c .before .i32x4-extadd-pairwise-i16x8-s .ensures ∙ ap (extadd-pairwise extend-s 16) (c .before .before .i16x8-relaxed-dot-i8x16-i7x16-s .ensures)) refl
 
 pub i32x4-relaxed-dot-i8x16-i7x16-add-s-spec : {M : Type 1} → statement M
-i32x4-relaxed-dot-i8x16-i7x16-add-s-spec = tie.close (tie.spec i16x8-relaxed-dot-i8x16-i7x16-s-requires i32x4-extadd-pairwise-i16x8-s-requires i32x4-add-requires returns)
+i32x4-relaxed-dot-i8x16-i7x16-add-s-spec = tie.close
+    (tie.spec i16x8-relaxed-dot-i8x16-i7x16-s-requires i32x4-extadd-pairwise-i16x8-s-requires i32x4-add-requires returns)

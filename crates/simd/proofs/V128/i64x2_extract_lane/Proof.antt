@@ -16,7 +16,8 @@ signed64-requires : tie.Need-signed64-requires
 signed64-requires c κs = search needs
 
 returns : tie.Need-returns
-returns c = lane-taken 64 _ (c .before .before .if1 .taken) (ap (modulo 64) (kept w64 (c .signed64 .ok) (c .signed64 .ensures)) ∙ modulo-signed w64 _ (search needs) ∙ c .before .lane64 .ensures)
+returns c = lane-taken 64 _ (c .before .before .if1 .taken)
+    (ap (modulo 64) (kept w64 (c .signed64 .ok) (c .signed64 .ensures)) ∙ modulo-signed w64 _ (search needs) ∙ c .before .lane64 .ensures)
 
 returns-2 : tie.Need-returns-2
 returns-2 c = lane-refused 64 _ _ (c .if1 .left)

@@ -15,7 +15,8 @@ wide8-requires : tie.Need-wide8-requires
 wide8-requires c κs = search needs
 
 returns : tie.Need-returns
-returns c = lane-taken 8 _ (c .before .before .if1 .taken) (ap (modulo 32) (kept w32 (c .wide8 .ok) (c .wide8 .ensures ∙ ap (signed 8) (c .before .lane8 .ensures))))
+returns c = lane-taken 8 _ (c .before .before .if1 .taken)
+    (ap (modulo 32) (kept w32 (c .wide8 .ok) (c .wide8 .ensures ∙ ap (signed 8) (c .before .lane8 .ensures))))
 
 returns-2 : tie.Need-returns-2
 returns-2 c = lane-refused 8 _ _ (c .if1 .left)

@@ -31,7 +31,8 @@ returns c =
     rw legal-s
     (ap given
     (c .join8 .ensures ∙ ap (joined 8) (c .before .picked .ensures)
-    ∙ shuffle-is (c .before .before .before .before .before .before .before .args .s) _ _ legal-s (c .before .before .beside .ensures) (c .before .before .before .before .lanes8 .ensures) (c .before .before .before .lanes82 .ensures)))
+    ∙ shuffle-is (c .before .before .before .before .before .before .before .args .s) _ _ legal-s (c .before .before .beside .ensures)
+    (c .before .before .before .before .lanes8 .ensures) (c .before .before .before .lanes82 .ensures)))
 
 returns-2 : tie.Need-returns-2
 returns-2 c = rw (sym (c .before .all-legal .ensures) ∙ c .if1 .left)

@@ -44,7 +44,11 @@ loop-less : tie.Need-loop-less Inv-loop μ-loop
 loop-less c = search needs
 
 loop-again : tie.Need-loop-again Inv-loop μ-loop
-loop-again c = (search needs, fill-turn 64 _ _ _ refl (places 16 56 _ (c .before .before .before .places16 .ensures)) (search needs) (c .before .before .loop .inv .1) (c .narrow16 .ensures))
+loop-again c = (
+  search needs,
+  fill-turn 64 _ _ _ refl (places 16 56 _ (c .before .before .before .places16 .ensures)) (search needs)
+      (c .before .before .loop .inv .1) (c .narrow16 .ensures),
+)
 
 from-places8-requires : tie.Need-from-places8-requires Inv-loop μ-loop
 from-places8-requires c κs = search needs
@@ -56,7 +60,8 @@ returns c =
     low-lanes 8 8 refl f (narrows-lt (a .signed) 16 8) (lanes 16 (number (a .self))) (replicate 8 (f 0)) refl _ _ (search needs)
     (c .from-places8 .ensures
     ∙ ap (λ (s : List ℕ). joined 8 (take 16 s))
-    (filled 64 f _ _ refl (places 16 56 _ (c .before .before .before .places16 .ensures)) (c .before .before .loop .i) (search needs) (c .before .before .loop .inv .1)
+    (filled 64 f _ _ refl (places 16 56 _ (c .before .before .before .places16 .ensures)) (c .before .before .loop .i) (search needs)
+    (c .before .before .loop .inv .1)
     ∙ ap (map f) (c .before .before .before .places16 .ensures)))
 
 pub narrowed16-spec : {M : Type 1} → statement M

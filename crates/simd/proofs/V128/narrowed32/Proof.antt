@@ -47,7 +47,11 @@ loop-less : tie.Need-loop-less Inv-loop μ-loop
 loop-less c = search needs
 
 loop-again : tie.Need-loop-again Inv-loop μ-loop
-loop-again c = (search needs, fill-turn 64 _ _ _ refl (places 32 60 _ (c .before .before .before .places32 .ensures)) (search needs) (c .before .before .loop .inv .1) (c .narrow32 .ensures))
+loop-again c = (
+  search needs,
+  fill-turn 64 _ _ _ refl (places 32 60 _ (c .before .before .before .places32 .ensures)) (search needs)
+      (c .before .before .loop .inv .1) (c .narrow32 .ensures),
+)
 
 from-places16-requires : tie.Need-from-places16-requires Inv-loop μ-loop
 from-places16-requires c κs = search needs
@@ -59,7 +63,8 @@ returns c =
     low-lanes 16 4 refl f (narrows-lt (a .signed) 32 16) (lanes 32 (number (a .self))) (replicate 4 (f 0)) refl _ _ (search needs)
     (c .from-places16 .ensures
     ∙ ap (λ (s : List ℕ). joined 16 (take 8 s))
-    (filled 64 f _ _ refl (places 32 60 _ (c .before .before .before .places32 .ensures)) (c .before .before .loop .i) (search needs) (c .before .before .loop .inv .1)
+    (filled 64 f _ _ refl (places 32 60 _ (c .before .before .before .places32 .ensures)) (c .before .before .loop .i) (search needs)
+    (c .before .before .loop .inv .1)
     ∙ ap (map f) (c .before .before .before .places32 .ensures)))
 
 pub narrowed32-spec : {M : Type 1} → statement M

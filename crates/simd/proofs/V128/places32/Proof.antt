@@ -40,12 +40,16 @@ loop-less : tie.Need-loop-less Inv-loop μ-loop
 loop-less c = search needs
 
 loop-again : tie.Need-loop-again Inv-loop μ-loop
-loop-again c =
-    (search needs, copy-turn 4 (replicate 64 0) _ (search needs) (le-of-eq (sym (ap length (c .before .before .lanes32 .ensures)))) (search needs) (c .before .loop .inv .1))
+loop-again c = (
+  search needs,
+  copy-turn 4 (replicate 64 0) _ (search needs) (le-of-eq (sym (ap length (c .before .before .lanes32 .ensures)))) (search needs)
+      (c .before .loop .inv .1),
+)
 
 returns : tie.Need-returns Inv-loop μ-loop
 returns c =
-    copy-done 4 (replicate 64 0) _ (search needs) (le-of-eq (sym (ap length (c .before .before .lanes32 .ensures)))) (c .before .loop .i) (search needs) (c .before .loop .inv .1)
+    copy-done 4 (replicate 64 0) _ (search needs) (le-of-eq (sym (ap length (c .before .before .lanes32 .ensures)))) (c .before .loop .i) (search needs)
+    (c .before .loop .inv .1)
     ∙ ap (λ (s : List ℕ). take 4 s ++ replicate 60 0) (c .before .before .lanes32 .ensures)
 
 pub places32-spec : {M : Type 1} → statement M

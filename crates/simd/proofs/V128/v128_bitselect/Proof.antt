@@ -9,7 +9,8 @@ returns : tie.Need-returns
 returns c =
     let before = c .before .before .before in
     c .v128-or .ensures
-    ∙ ap₂ (ior 128) (before .v128-and .ensures) (c .before .v128-and2 .ensures ∙ ap (iand 128 (number (before .before .args .v2))) (c .before .before .v128-not .ensures))
+    ∙ ap₂ (ior 128) (before .v128-and .ensures)
+    (c .before .v128-and2 .ensures ∙ ap (iand 128 (number (before .before .args .v2))) (c .before .before .v128-not .ensures))
 
 pub v128-bitselect-spec : {M : Type 1} → statement M
 v128-bitselect-spec = tie.close (tie.spec (λ c κs. tt) (λ c κs. tt) (λ c κs. tt) (λ c κs. tt) returns)

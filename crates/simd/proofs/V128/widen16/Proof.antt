@@ -46,7 +46,11 @@ loop-less : tie.Need-loop-less Inv-loop μ-loop
 loop-less c = search needs
 
 loop-again : tie.Need-loop-again Inv-loop μ-loop
-loop-again c = (search needs, fill-turn 64 _ _ _ refl (places 16 56 _ (c .before .before .before .places16 .ensures)) (search needs) (c .before .before .loop .inv .1) (c .extend16 .ensures))
+loop-again c = (
+  search needs,
+  fill-turn 64 _ _ _ refl (places 16 56 _ (c .before .before .before .places16 .ensures)) (search needs)
+      (c .before .before .loop .inv .1) (c .extend16 .ensures),
+)
 
 from-places32-requires : tie.Need-from-places32-requires Inv-loop μ-loop
 from-places32-requires c κs = search needs
@@ -56,9 +60,11 @@ returns c =
     let f = extends (c .before .before .before .before .args .signed) 16 32 in
     c .from-places32 .ensures
     ∙ ap (λ (s : List ℕ). joined 32 (take 4 s))
-    (filled 64 f _ _ refl (places 16 56 _ (c .before .before .before .places16 .ensures)) (c .before .before .loop .i) (search needs) (c .before .before .loop .inv .1)
+    (filled 64 f _ _ refl (places 16 56 _ (c .before .before .before .places16 .ensures)) (c .before .before .loop .i) (search needs)
+    (c .before .before .loop .inv .1)
     ∙ ap (map f) (c .before .before .before .places16 .ensures))
-    ∙ ap (λ (s : List ℕ). joined 32 (take 4 (map f (s ++ replicate 56 0)))) (lanes-halves 16 4 refl refl (c .before .before .before .before .args .bits) 0 (search needs))
+    ∙ ap (λ (s : List ℕ). joined 32 (take 4 (map f (s ++ replicate 56 0))))
+    (lanes-halves 16 4 refl refl (c .before .before .before .before .args .bits) 0 (search needs))
     ∙ widened 16 _ _ refl
 
 pub widen16-spec : {M : Type 1} → statement M

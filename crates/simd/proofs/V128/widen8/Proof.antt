@@ -43,7 +43,11 @@ loop-less : tie.Need-loop-less Inv-loop μ-loop
 loop-less c = search needs
 
 loop-again : tie.Need-loop-again Inv-loop μ-loop
-loop-again c = (search needs, fill-turn 64 _ _ _ refl (places 8 48 _ (c .before .before .before .places8 .ensures)) (search needs) (c .before .before .loop .inv .1) (c .extend8 .ensures))
+loop-again c = (
+  search needs,
+  fill-turn 64 _ _ _ refl (places 8 48 _ (c .before .before .before .places8 .ensures)) (search needs)
+      (c .before .before .loop .inv .1) (c .extend8 .ensures),
+)
 
 from-places16-requires : tie.Need-from-places16-requires Inv-loop μ-loop
 from-places16-requires c κs = search needs
@@ -53,9 +57,11 @@ returns c =
     let f = extends (c .before .before .before .before .args .signed) 8 16 in
     c .from-places16 .ensures
     ∙ ap (λ (s : List ℕ). joined 16 (take 8 s))
-    (filled 64 f _ _ refl (places 8 48 _ (c .before .before .before .places8 .ensures)) (c .before .before .loop .i) (search needs) (c .before .before .loop .inv .1)
+    (filled 64 f _ _ refl (places 8 48 _ (c .before .before .before .places8 .ensures)) (c .before .before .loop .i) (search needs)
+    (c .before .before .loop .inv .1)
     ∙ ap (map f) (c .before .before .before .places8 .ensures))
-    ∙ ap (λ (s : List ℕ). joined 16 (take 8 (map f (s ++ replicate 48 0)))) (lanes-halves 8 8 refl refl (c .before .before .before .before .args .bits) 0 (search needs))
+    ∙ ap (λ (s : List ℕ). joined 16 (take 8 (map f (s ++ replicate 48 0))))
+    (lanes-halves 8 8 refl refl (c .before .before .before .before .args .bits) 0 (search needs))
     ∙ widened 8 _ _ refl
 
 pub widen8-spec : {M : Type 1} → statement M
