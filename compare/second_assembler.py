@@ -1,4 +1,4 @@
-"""A second assembler and disassembler of step lists, written from the grammar of docs/TEXT.md in another language. Which operations there are, and what each
+"""A second assembler and disassembler of step lists, written from the grammar of docs/GUIDE.md in another language. Which operations there are, and what each
 takes, comes from the published test suite's rows (asserts.tsv) and the standard's list of numbers (opcodes.tsv), in ../shared beside the repository or in the
 folder that the variable SHARED names."""
 import os, re
