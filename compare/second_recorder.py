@@ -1,7 +1,8 @@
 """A second recorder and a second replay, written from document 02, order 8, over the second calculator.
 
 They share nothing with the crates. What stands in quotation marks is document 02. `python3 compare/second_recorder.py record < LIST` writes the recording of a
-list, and `python3 compare/second_recorder.py replay < RECORDING` what the program `replay` has to write.
+list, `python3 compare/second_recorder.py replay < RECORDING` what the program `replay` has to write, and `python3 compare/second_recorder.py show < RECORDING`
+what the program `show` has to write.
 """
 
 import sys
@@ -124,6 +125,29 @@ def replayed(instructions, file):
     return "agrees"
 
 
+def left_line(record):
+    """What a record says that its step left: the vector, the scalar by its kind, highest digit first, 8 or 16 digits, and the refusal."""
+    bits = int.from_bytes(record[56:], "little")
+    digits = "%08x" % bits if narrow(record[49]) else "%016x" % bits
+    return "  vector %s s %s %s refused %d" % (record[32:48].hex(), KINDS[record[49]], digits, record[48])
+
+
+def shown(instructions, file):
+    """The lines that the program `show` writes of a file."""
+    # here, since the second assembler reads the suite's rows, and nothing else of this file needs them
+    from second_assembler import line_of
+
+    answer, lines, state = replayed(instructions, file), [], START
+    if not answer.startswith("refused"):
+        for number, record in enumerate(records_of([file[at : at + BLOCK] for at in range(0, len(file), BLOCK)]), 1):
+            expected, following = record_of(instructions, record[:STEP], number, state)
+            state = following or state
+            lines += ["record %d: %s" % (number, line_of(record[:STEP]).decode()), left_line(record)]
+            if record != expected:
+                lines += ["  the definition gives", left_line(expected)]
+    return lines + [answer]
+
+
 if __name__ == "__main__":
     given = sys.stdin.buffer.read()
     if sys.argv[1:] == ["record"]:
@@ -131,5 +155,7 @@ if __name__ == "__main__":
         if isinstance(made, str):
             sys.exit(made)
         sys.stdout.buffer.write(made)
+    elif sys.argv[1:] == ["show"]:
+        print("\n".join(shown(read_instructions(), given)))
     else:
         print(replayed(read_instructions(), given))
