@@ -11,11 +11,15 @@ use Rattle.program_digits.specs.Codes.{codes}
 use Rattle.program_digits.specs.Digits.{digits, decimal}
 use Rattle.program_digits.specs.Put.{written, Wrote}
 use Rattle.program_digits.proofs.Laws.{length-digits}
-use Rattle.program_digits.proofs.Puts.{then, pasted, said-as}
+use Rattle.program_digits.proofs.Puts.{then, pasted, said-as, filled}
 use Rattle.capture_meetings.specs.Meetings.{Meeting, met}
 use Rattle.program_scan.specs.Lines.{line, lines}
 use Rattle.program_scan.specs.Pen.{little, Digits, Ready, told, tolds, all-told}
 use Rattle.program_scan.proofs.Numbers.{ten, decimal-is, front-and-last, one-digit}
+
+-- a text that has room is there, and the rest of the list stays
+pub whole : {out left a : List ℕ} {r : ℕ} → length a ≤ length out → Wrote out 0 a left r → (r ≡ length a) × (left ≡ a ++ drop (length a) out)
+whole h put = let f = filled h refl put in (f .count, f .is)
 
 -- ---- the bytes of a word
 

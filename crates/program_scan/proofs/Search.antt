@@ -14,9 +14,9 @@ use Rattle.capture_meetings.proofs.Laws.{parts, shift-append}
 use Rattle.capture_meetings.proofs.Members.{Met, only}
 use Rattle.capture_meetings.proofs.Theorems.{first-is}
 use Rattle.program_digits.specs.Put.{Wrote}
-use Rattle.program_digits.proofs.Puts.{then, said-as, no-more, whole}
+use Rattle.program_digits.proofs.Puts.{then, said-as, no-more}
 use Rattle.program_scan.specs.Lines.{lines}
-use Rattle.program_scan.proofs.Ink.{lines-append}
+use Rattle.program_scan.proofs.Ink.{lines-append, whole}
 use Rattle.capture_history.proofs.Standing.{Head, head-of}
 
 none-before : (xs ys : List Meeting) → xs ++ ys ≡ [] → xs ≡ []

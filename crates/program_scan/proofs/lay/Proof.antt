@@ -7,9 +7,8 @@ use lib.ListN.{length, drop, length-append}
 use Rattle.program_digits.specs.Codes.{codes}
 use Rattle.program_digits.specs.Digits.{decimal}
 use Rattle.program_digits.proofs.Laws.{decimal-length}
-use Rattle.program_digits.proofs.Puts.{whole}
 use Rattle.program_scan.proofs.Numbers.{decimal-count}
-use Rattle.program_scan.proofs.Ink.{laid}
+use Rattle.program_scan.proofs.Ink.{laid, whole}
 use borrow.Author.Needs.{needs}
 use Rattle.program_scan.proofs.lay.Statement.{statement}
 use Rattle.program_scan.proofs.lay.Tie as tie
