@@ -1166,7 +1166,7 @@ uint32_t gatulefo_i64x2_bitmask(gatulefo_v128 v);
 bool gatulefo_v128_any_true(gatulefo_v128 v);
 
 /* The relaxed instructions of WebAssembly 3.0 that are carried over, each as the Rust chooses: the plain operation, and the two dots. What 3.0 allows, and
- * that each answer is among it, but for dots that meet four −128, is the crate `relaxed`. */
+ * that each answer is among it, but for dots that meet four −128, is the crate `lane_relaxed_theorems`. */
 
 /* The sums of two neighbouring products of sixteen 8-bit lanes, signed, modulo 2^16.
  * number r ≡ relaxed-dot (number lhs) (number rhs) */
@@ -1411,7 +1411,7 @@ gatulefo_stored gatulefo_v128_store64_lane_at(uint8_t *memory, size_t memory_len
 
 /* i8x16 add, exclusive-or and popcnt over a lent row of vectors, written over the first row (document 02, order 6), in the form that the order names: a row is a slice of
  * vectors. What comes back of two rows is the number of the refusal, 12 where they differ in length, or 0; nothing is written where there is one. The texts are those of the
- * crate `rows`, since its laws are of a text (rows/proofs/TwoRows.antt, OneRow.antt). */
+ * crate `row_vectors`, since its laws are of a text (row_vectors/proofs/TwoRows.antt, OneRow.antt). */
 
 /* Of a whole row, in place. The sums of sixteen 8-bit lanes, modulo 2^8.
  * Combined (binary 8 (iadd 8)) (now (first .entry)) (now (second .entry)) r (now (first .exit)) */

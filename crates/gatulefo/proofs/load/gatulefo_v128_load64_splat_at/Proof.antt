@@ -6,5 +6,4 @@ use Rattle.gatulefo.proofs.load.gatulefo_v128_load64_splat_at.Statement
 use Rattle.gatulefo.proofs.load.gatulefo_v128_load64_splat_at.Tie as tie
 
 pub gatulefo-v128-load64-splat-at-spec : {M : Type 1} → statement M
-gatulefo-v128-load64-splat-at-spec = tie.close
-    (tie.spec nothing nothing (λ c. c .of-load .ensures ∙ ap access-numbers (c .before .v128-load64-splat-at .ensures)))
+gatulefo-v128-load64-splat-at-spec = tie.close (tie.spec nothing nothing (λ c. c .of-load .ensures ∙ ap access-numbers (c .before .v128-load64-splat-at .ensures)))

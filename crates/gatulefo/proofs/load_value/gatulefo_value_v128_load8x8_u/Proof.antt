@@ -6,5 +6,4 @@ use Rattle.gatulefo.proofs.load_value.gatulefo_value_v128_load8x8_u.Sta
 use Rattle.gatulefo.proofs.load_value.gatulefo_value_v128_load8x8_u.Tie as tie
 
 pub gatulefo-value-v128-load8x8-u-spec : {M : Type 1} → statement M
-gatulefo-value-v128-load8x8-u-spec = tie.close
-    (tie.spec nothing nothing (λ c. c .load-or-zero .ensures ∙ ap access-or-zero (c .before .v128-load8x8-u .ensures)))
+gatulefo-value-v128-load8x8-u-spec = tie.close (tie.spec nothing nothing (λ c. c .load-or-zero .ensures ∙ ap access-or-zero (c .before .v128-load8x8-u .ensures)))
