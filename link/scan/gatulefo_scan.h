@@ -2,7 +2,7 @@
  *
  * SPDX-License-Identifier: Apache-2.0
  *
- * `rt staticlib link_scan` makes the archive, target/staticlib/libscan_link.a, for Linux on x86-64. The promises stand in crates/link_scan/src/lib.rt;
+ * `rt staticlib link_scan` makes the archive, target/staticlib/liblink_scan.a, for Linux on x86-64. The promises stand in crates/link_scan/src/lib.rt;
  * link/scan/check calls every function here from C and from Rust and compares what it answers with the program `scan`.
  *
  * The caller lends a window of more than (length + 38) / 8 bytes, 8,197 for any length, and a table for the columns, and keeps the state. Ask for meetings
