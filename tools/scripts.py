@@ -101,6 +101,23 @@ def archive(room, name):
     return room / "target" / "staticlib" / ("lib%s.a" % name)
 
 
+def native_archive(room, name):
+    """The static library of a crate of the copy for the processor at hand. rt's is for x86-64; for another processor the module that rt's is compiled from is compiled
+    again, by the same compiler, with what belongs to x86-64 left out."""
+    if platform.machine() == "x86_64":
+        return archive(room, name)
+    made = room / "target" / "native"
+    made.mkdir(parents=True, exist_ok=True)
+    run([ROOT / "tools" / "module", name, made], room, "there is no module")
+    words = (made / "words").read_text().splitlines()
+    foreign = [word for word in words if not word.startswith(("--target=", "-march=", "--sysroot=", "-Werror"))]
+    run([toolchain() / "clang", "--target=%s-unknown-linux-gnu" % platform.machine(), *foreign], made, "the module was not compiled for this processor")
+    library = made / ("lib%s.a" % name)
+    library.unlink(missing_ok=True)
+    run([toolchain() / "llvm-ar", "crs", library, "module.o"], made, "the library was not made")
+    return library
+
+
 def driver(room, text, *archives):
     """The program that a C text and these archives make."""
     tools = toolchain()

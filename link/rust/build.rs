@@ -1,4 +1,5 @@
-//! Links the archive that `rt staticlib gatulefo` makes in the repository's folder target/staticlib, or in the folder that the variable GATULEFO names.
+//! Links the archive that `rt staticlib gatulefo` makes in the repository's folder target/staticlib, or the one in the folder that the variable GATULEFO names,
+//! which then is for the target's processor.
 
 use std::env;
 use std::path::{Path, PathBuf};
@@ -20,7 +21,7 @@ fn folder() -> PathBuf {
 fn main() {
     println!("cargo:rerun-if-env-changed=GATULEFO");
     let target = format!("{}-{}", env::var("CARGO_CFG_TARGET_ARCH").unwrap(), env::var("CARGO_CFG_TARGET_OS").unwrap());
-    if target != "x86_64-linux" {
+    if target != "x86_64-linux" && env::var("GATULEFO").is_err() {
         fail(&format!("the archive is for x86_64-linux and cannot be linked for {target}"));
     }
     let archive = folder().join("libgatulefo.a");
