@@ -5,6 +5,7 @@ ghost use mathlib.Core.Bool.{cond};
 ghost use lib.ListN.{take};
 ghost use Rattle.array_lanewise.specs.Lanewise.{unaries, unaries8, unaries16, unaries32, binaries, binaries16, binaries32, unary-of, binary-of};
 use lane_integer::arithmetic::*;
+use lane_integer::choose::*;
 use lane_integer::compare::*;
 use lane_integer::shift::*;
 use lane_wide::*;
@@ -77,30 +78,6 @@ pub const Q15MULR_SAT_S: u8 = 22;
 pub const RELAXED_DOT: u8 = 23;
 // Of 32 bits only.
 pub const DOT: u8 = 17;
-
-fn pick8(t: bool, a: u8, b: u8) -> u8
-    ensures { λ r. ⌜ r ≡ cond t a b ⌝ }
-{
-    if t { a } else { b }
-}
-
-fn pick16(t: bool, a: u16, b: u16) -> u16
-    ensures { λ r. ⌜ r ≡ cond t a b ⌝ }
-{
-    if t { a } else { b }
-}
-
-fn pick32(t: bool, a: u32, b: u32) -> u32
-    ensures { λ r. ⌜ r ≡ cond t a b ⌝ }
-{
-    if t { a } else { b }
-}
-
-fn pick64(t: bool, a: u64, b: u64) -> u64
-    ensures { λ r. ⌜ r ≡ cond t a b ⌝ }
-{
-    if t { a } else { b }
-}
 
 // `count` is for the shifts.
 pub fn unary8(op: u8, count: u32, x: u8) -> u8

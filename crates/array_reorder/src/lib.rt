@@ -52,19 +52,19 @@ pub fn picked(t: [u8; 32], s: [u8; 16]) -> [u8; 16]
 }
 
 // "An index of 16 to 255 gives 0" (document 01, "Lane rules"): held to 16, it names the first zero after the sixteen bytes.
-fn held(i: u8) -> u8
+fn capped(i: u8) -> u8
     ensures { λ r. ⌜ r ≡ imin-u 8 i 16 ⌝ }
 {
     if i < 16 { i } else { 16 }
 }
 
 // Over as many places as the compiler makes vectors of (docs/DECISIONS.md, "Idle places").
-fn all_held(s: [u8; 64]) -> [u8; 64]
+fn all_capped(s: [u8; 64]) -> [u8; 64]
     ensures { λ r. ⌜ r ≡ map (λ i. imin-u 8 i 16) s ⌝ }
 {
     let mut out = [0u8; 64];
     for i in 0..64 {
-        out[i] = held(s[i]);
+        out[i] = capped(s[i]);
     }
     out
 }
@@ -83,5 +83,5 @@ fn first(s: [u8; 64]) -> [u8; 16]
 pub fn swizzled(t: [u8; 16], s: [u8; 64]) -> [u8; 16]
     ensures { λ r. ⌜ r ≡ map (λ i. getD t i 0) (take 16 s) ⌝ }
 {
-    picked(beside(t, [0; 16]), first(all_held(s)))
+    picked(beside(t, [0; 16]), first(all_capped(s)))
 }

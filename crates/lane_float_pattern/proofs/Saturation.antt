@@ -152,15 +152,15 @@ module _ (f : Format) (b : ℕ) where
 
 -- ---- a signed lane as the code has it
 
-pub held-low : (a : ℕ) → cond (ltb a (2 ^ 31)) a (2 ^ 31) ≡ min a (2 ^ 31)
-held-low a = go (ltb a (2 ^ 31)) (ltb→lt a (2 ^ 31)) (nltb→le a (2 ^ 31))
+pub capped-low : (a : ℕ) → cond (ltb a (2 ^ 31)) a (2 ^ 31) ≡ min a (2 ^ 31)
+capped-low a = go (ltb a (2 ^ 31)) (ltb→lt a (2 ^ 31)) (nltb→le a (2 ^ 31))
   where
     go : (t : Bool) → (T t → a < 2147483648) → (T (not t) → 2147483648 ≤ a) → cond t a 2147483648 ≡ min a 2147483648
     go true h k = let l = h tt in omega arith
     go false h k = let l = k tt in omega arith
 
-pub held-high : (a : ℕ) → cond (ltb a (2 ^ 31)) a (2 ^ 31 - 1) ≡ modulo 32 (pos (min a (2 ^ 31 - 1)))
-held-high a = go (ltb a (2 ^ 31)) (ltb→lt a (2 ^ 31)) (nltb→le a (2 ^ 31))
+pub capped-high : (a : ℕ) → cond (ltb a (2 ^ 31)) a (2 ^ 31 - 1) ≡ modulo 32 (pos (min a (2 ^ 31 - 1)))
+capped-high a = go (ltb a (2 ^ 31)) (ltb→lt a (2 ^ 31)) (nltb→le a (2 ^ 31))
   where
     go : (t : Bool) → (T t → a < 2147483648) → (T (not t) → 2147483648 ≤ a) → cond t a 2147483647 ≡ min a 2147483647 % 4294967296
     go true h k = let l = h tt in omega arith

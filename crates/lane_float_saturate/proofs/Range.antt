@@ -16,7 +16,7 @@ use Rattle.standard.specs.Convert.{trunc-sat-u, trunc-sat-s}
 use Rattle.lane_float_pattern.proofs.Fields.{field, digits, digits-are, digits-lt, led}
 use Rattle.lane_float_parts.proofs.Upper.{upper, field-is, sign-test}
 use Rattle.lane_float_parts.proofs.Upper.{from as from-upper}
-use Rattle.lane_float_pattern.proofs.Saturation.{part-of-nan, part-small, part-large, part-middle, unsigned-lane, signed-lane, held-low, held-high, negated-lane}
+use Rattle.lane_float_pattern.proofs.Saturation.{part-of-nan, part-small, part-large, part-middle, unsigned-lane, signed-lane, capped-low, capped-high, negated-lane}
 
 -- ---- the signed lane, by the whole part of the magnitude
 module _ (f : Format) (b : ℕ) where
@@ -38,21 +38,21 @@ module _ (f : Format) (b : ℕ) where
     where
       pick : (s : Bool) → cond s 2147483648 2147483647 ≡ modulo 32 (cond s (negℤ (pos (min part (2 ^ 31)))) (pos (min part (2 ^ 31 - 1))))
       pick true = negated-lane 2147483648 (lit≤ tt) (lit≤ tt)
-          ∙ ap (λ (p : ℕ). modulo 32 (negℤ (pos p))) (ap (λ (t : Bool). cond t part 2147483648) (sym (le-ltb part 2147483648 h)) ∙ held-low part)
-      pick false = ap (λ (t : Bool). cond t part 2147483647) (sym (le-ltb part 2147483648 h)) ∙ held-high part
+          ∙ ap (λ (p : ℕ). modulo 32 (negℤ (pos p))) (ap (λ (t : Bool). cond t part 2147483648) (sym (le-ltb part 2147483648 h)) ∙ capped-low part)
+      pick false = ap (λ (t : Bool). cond t part 2147483647) (sym (le-ltb part 2147483648 h)) ∙ capped-high part
 
   pub inside : 0 < part → part < 2 ^ 31 → cond (leb (top f) b) (4294967295 - part + 1) part ≡ trunc-sat-s f b
   inside g h = lane (pick (leb (top f) b))
     where
       low : part ≡ min part 2147483648
-      low = ap (λ (t : Bool). cond t part 2147483648) (sym (lt-ltb part 2147483648 h)) ∙ held-low part
+      low = ap (λ (t : Bool). cond t part 2147483648) (sym (lt-ltb part 2147483648 h)) ∙ capped-low part
 
       few : (p : ℕ) → p < 2147483648 → p ≤ 2147483648
       few p k = omega arith
 
       pick : (s : Bool) → cond s (4294967295 - part + 1) part ≡ modulo 32 (cond s (negℤ (pos (min part (2 ^ 31)))) (pos (min part (2 ^ 31 - 1))))
       pick true = negated-lane part g (few part h) ∙ ap (λ (p : ℕ). modulo 32 (negℤ (pos p))) low
-      pick false = ap (λ (t : Bool). cond t part 2147483647) (sym (lt-ltb part 2147483648 h)) ∙ held-high part
+      pick false = ap (λ (t : Bool). cond t part 2147483647) (sym (lt-ltb part 2147483648 h)) ∙ capped-high part
 
 -- ---- how large the part is, by the exponent's field
 

@@ -1,4 +1,4 @@
-// Floats to lanes of 32 bits: cut toward zero, held to both ends of the range, and 0 of a NaN.
+// Floats to lanes of 32 bits: cut toward zero, capped to both ends of the range, and 0 of a NaN.
 ghost use mathlib.Core.Path.{_≡_};
 ghost use mathlib.Core.List.{map};
 ghost use Prim.Native.Nat.{_%_, _^_};
@@ -17,8 +17,8 @@ fn trunc_sat_u32(bits: u32) -> u32
 {
     let down = (542 - bits / 0x80_0000) % 32;
     let part = ((bits % 0x80_0000) * 256 + 0x8000_0000) >> down;
-    let held = pick32(0x4F80_0000 <= bits, u32::MAX, part);
-    pick32((bits < 0x3F80_0000) | (0x7F80_0000 < bits), OF_NAN, held)
+    let capped = pick32(0x4F80_0000 <= bits, u32::MAX, part);
+    pick32((bits < 0x3F80_0000) | (0x7F80_0000 < bits), OF_NAN, capped)
 }
 
 // The same of the magnitude, and the sign by all ones or none: a number is turned to its negative by an exclusive-or with them and a difference.
@@ -30,8 +30,8 @@ fn trunc_sat_s32(bits: u32) -> u32
     let part = ((bits % 0x80_0000) * 256 + 0x8000_0000) >> down;
     let ones = pick32(0x8000_0000 <= bits, u32::MAX, 0);
     let turned = std::num::wrapping_sub_u32(part ^ ones, ones);
-    let held = pick32(0x4F00_0000 <= size, 0x7FFF_FFFF ^ ones, turned);
-    pick32((size < 0x3F80_0000) | (0x7F80_0000 < size), OF_NAN, held)
+    let capped = pick32(0x4F00_0000 <= size, 0x7FFF_FFFF ^ ones, turned);
+    pick32((size < 0x3F80_0000) | (0x7F80_0000 < size), OF_NAN, capped)
 }
 
 // Four lanes side by side.

@@ -8,7 +8,7 @@ use lib.Dec.{eqb}
 use lib.IntN.{ℤ, _+ℤ_, _*ℤ_}
 use Rattle.standard.specs.Integer.{signed, modulo, sat-s, iadd, iadd-sat-s, imul, extend-s}
 use Rattle.lane_relaxed_theorems.specs.Allowed.{dotted}
-use Rattle.lane_relaxed_theorems.proofs.Whole.{Within, sum-within, sum-modulo, product-modulo, product-within, product-short, product-of-seven, plain, byte-within, lowest-byte, reads-back, held, widened}
+use Rattle.lane_relaxed_theorems.proofs.Whole.{Within, sum-within, sum-modulo, product-modulo, product-within, product-short, product-of-seven, plain, byte-within, lowest-byte, reads-back, not-capped, widened}
 
 -- what is given: the sum of the products of the bytes of two 16-bit lanes, modulo 2^16
 abbrev pub given : ℕ → ℕ → ℕ
@@ -85,7 +85,7 @@ module _ (a b : ℕ) (ha : a < 2 ^ 16) (hb : b < 2 ^ 16) where
 
   -- the value of the signed reading, which the standard allows
   pub as-signed : (Four a b → ⊥) → given a b ≡ dotted extend-s a b
-  as-signed apart = given-modulo ∙ sym (held (exact a b) (fits apart)) ∙ sym dotted-held
+  as-signed apart = given-modulo ∙ sym (not-capped (exact a b) (fits apart)) ∙ sym dotted-held
 
   -- bytes of 7 bits in the second lane: the sum never wraps, and lies within −32512..32258
   module _ (low : b % 2 ^ 8 ≤ 127) (high : b / 2 ^ 8 ≤ 127) where

@@ -124,9 +124,9 @@ reads-back (negsuc n) h =
     let m : n % 2 ^ 16 ≡ n = mod-eq-of-lt (omega arith) in
     rw (m, le-ltb (65536 - suc n) 32768 (omega arith), lt-ltb (65536 - suc n) 65536 (omega arith)) (ap negsuc (omega arith))
 
-pub held : (z : ℤ) → Within 32768 32767 z → sat-s 16 z ≡ modulo 16 z
-held (pos n) h = rw (le-ltb 32767 n h)
-held (negsuc n) h = rw (le-ltb 32767 n (omega arith))
+pub not-capped : (z : ℤ) → Within 32768 32767 z → sat-s 16 z ≡ modulo 16 z
+not-capped (pos n) h = rw (le-ltb 32767 n h)
+not-capped (negsuc n) h = rw (le-ltb 32767 n (omega arith))
 
 pub widened : (lo hi lo' hi' : ℕ) (z : ℤ) → lo ≤ lo' → hi ≤ hi' → Within lo hi z → Within lo' hi' z
 widened lo hi lo' hi' (pos n) l u h = omega arith

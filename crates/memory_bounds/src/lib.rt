@@ -30,7 +30,7 @@ fn less(a: u64, b: u64) -> u64
 }
 
 // a and b together, or 2^64-1 where that is larger.
-fn held(a: u64, b: u64) -> u64
+fn capped(a: u64, b: u64) -> u64
     ensures { λ r. ⌜ r ≡ min (a + b) (2 ^ 64 - 1) ⌝ }
 {
     if u64::MAX - b < a {
@@ -46,8 +46,8 @@ fn shortfall(length: u64, ptr: u64, offset: u64, n: u64) -> u64
 {
     let behind_pointer = less(length, ptr);
     let behind_sum = less(behind_pointer, offset);
-    let sum = held(less(ptr, length), less(offset, behind_pointer));
-    held(sum, less(n, behind_sum))
+    let sum = capped(less(ptr, length), less(offset, behind_pointer));
+    capped(sum, less(n, behind_sum))
 }
 
 // "allowed when the exact sum p + o + n is at most the length": a sum that has come round is below the pointer, and its exact value is past every

@@ -23,12 +23,12 @@ numeral base read [] = number read
 numeral base read (c ∷ cs) = cond (ltb (digit c) base) (numeral base (read * base + digit c) cs) none
 
 -- "a value below 2^32"
-abbrev pub held : Numeral → Numeral
-held (number n) = cond (ltb n (2 ^ 32)) (number n) none
-held none = none
+abbrev pub fitting : Numeral → Numeral
+fitting (number n) = cond (ltb n (2 ^ 32)) (number n) none
+fitting none = none
 
 abbrev pub decimal : List ℕ → Numeral
-decimal cs = cond (eqb (length cs) 0) none (held (numeral 10 0 cs))
+decimal cs = cond (eqb (length cs) 0) none (fitting (numeral 10 0 cs))
 
 abbrev pub eight-hex-digits : List ℕ → Numeral
-eight-hex-digits cs = cond (eqb (length cs) 8) (held (numeral 16 0 cs)) none
+eight-hex-digits cs = cond (eqb (length cs) 8) (fitting (numeral 16 0 cs)) none

@@ -1,7 +1,7 @@
 // The arguments of programs: numbers spelt in ASCII.
 ghost use Prim.Native.Nat.{_≤_};
 ghost use mathlib.Core.Path.{_≡_};
-ghost use Rattle.program_arguments.specs.Arguments.{digit, numeral, held, decimal, eight-hex-digits};
+ghost use Rattle.program_arguments.specs.Arguments.{digit, numeral, fitting, decimal, eight-hex-digits};
 ghost use Rattle.program_arguments.specs.Numeral.{numeral-of};
 
 pub enum Numeral {
@@ -28,7 +28,7 @@ fn digit(c: u8) -> u8
 fn spelt(text: &[u8], base: u8) -> Numeral
     requires { ⌜ 2 ≤ base ⌝ }
     requires { ⌜ base ≤ 16 ⌝ }
-    ensures { λ r. ⌜ numeral-of r ≡ held (numeral base 0 (now (text .entry))) ⌝ }
+    ensures { λ r. ⌜ numeral-of r ≡ fitting (numeral base 0 (now (text .entry))) ⌝ }
 {
     let mut value: u32 = 0;
     for i in 0..text.len() {

@@ -26,8 +26,8 @@ pub struct Mending {
     pub bits: [u16; 37],
 }
 
-// The mark of bit k in its byte.
-fn mark(k: u16) -> u8
+// The weight of bit k in its byte.
+fn weight(k: u16) -> u8
     ensures { λ p. ⌜ p ≡ 2 ^ (7 - k % 8) ⌝ }
 {
     let n = (7 - k % 8) as u8;
@@ -43,7 +43,7 @@ fn put(b: &[u8], bit: u16, out: &mut [u8])
     bytes::copy(b, out);
     if bit < NONE {
         let i = (bit / 8) as usize;
-        out[i] = out[i] ^ mark(bit);
+        out[i] = out[i] ^ weight(bit);
     }
 }
 

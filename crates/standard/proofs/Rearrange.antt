@@ -63,10 +63,10 @@ take-map f (suc n) [] = refl
 take-map f (suc n) (x ∷ xs) = ap (λ (r : List ℕ). f x ∷ r) (take-map f n xs)
 
 -- so sixteen indices, each held to at most 16, name the bytes that they name or 0
-pub held-indices : (xs : List ℕ) → length xs ≡ 16 → (is : List ℕ) → map (λ i. getD (xs ++ replicate 16 0) (i % 32) 0) (map (λ i. imin-u 8 i 16) is)
+pub capped-indices : (xs : List ℕ) → length xs ≡ 16 → (is : List ℕ) → map (λ i. getD (xs ++ replicate 16 0) (i % 32) 0) (map (λ i. imin-u 8 i 16) is)
     ≡ map (λ i. getD xs i 0) is
-held-indices xs l [] = refl
-held-indices xs l (i ∷ is) = ap₂ _∷_ (byte-or-zero xs l i) (held-indices xs l is)
+capped-indices xs l [] = refl
+capped-indices xs l (i ∷ is) = ap₂ _∷_ (byte-or-zero xs l i) (capped-indices xs l is)
 
 pub shuffle-is : (is : List ℕ) (x y : ℕ) {t xs ys : List ℕ} → legal is ≡ true → t ≡ xs ++ ys → xs ≡ lanes 8 x → ys ≡ lanes 8 y
     → joined 8 (map (λ i. getD t (i % 32) 0) is) ≡ shuffle is x y

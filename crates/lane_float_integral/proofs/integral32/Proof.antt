@@ -11,6 +11,7 @@ use Rattle.lane_float_pattern.specs.Integral.{lift}
 use Rattle.lane_float_pattern.proofs.Chosen.{lift-le, within}
 use Rattle.lane_float_pattern.proofs.ToWhole.{of-nan, large, small, between}
 use borrow.Author.Needs.{needs}
+use Rattle.lane_float_integral.proofs.Fits.{both-fit}
 use Rattle.lane_float_integral.proofs.integral32.Statement.{statement}
 use Rattle.lane_float_integral.proofs.integral32.Tie as tie
 
@@ -31,16 +32,10 @@ rises32-requires c κs = search needs
 pick32-requires-2 : tie.Need-pick32-requires-2
 pick32-requires-2 c κs = search needs
 
-two-fit : (t u : Bool) → cond t 2147483648 0 + cond u 1065353216 0 < 4294967296
-two-fit true true = omega arith
-two-fit true false = omega arith
-two-fit false true = omega arith
-two-fit false false = omega arith
-
 add-result : tie.Need-add-result
 add-result c = record {
   fits = lt-of-le-of-lt (le-of-eq (ap₂ _+_ (c .before .before .pick32 .ensures) (c .pick322 .ensures)))
-      (two-fit (leb 2147483648 (c .before .before .before .before .before .before .args .bits)) (c .before .rises32 .result));
+      (both-fit 2147483648 1065353216 4294967296 (lit< tt) (leb 2147483648 (c .before .before .before .before .before .before .args .bits)) (c .before .rises32 .result));
 }
 
 returns-3 : tie.Need-returns-3

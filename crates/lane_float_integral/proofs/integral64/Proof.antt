@@ -11,6 +11,7 @@ use Rattle.lane_float_pattern.specs.Integral.{lift}
 use Rattle.lane_float_pattern.proofs.Chosen.{lift-le, within}
 use Rattle.lane_float_pattern.proofs.ToWhole.{of-nan, large, small, between}
 use borrow.Author.Needs.{needs}
+use Rattle.lane_float_integral.proofs.Fits.{both-fit}
 use Rattle.lane_float_integral.proofs.integral64.Statement.{statement}
 use Rattle.lane_float_integral.proofs.integral64.Tie as tie
 
@@ -31,16 +32,10 @@ rises64-requires c κs = search needs
 pick64-requires-2 : tie.Need-pick64-requires-2
 pick64-requires-2 c κs = search needs
 
-two-fit : (t u : Bool) → cond t 9223372036854775808 0 + cond u 4607182418800017408 0 < 18446744073709551616
-two-fit true true = omega arith
-two-fit true false = omega arith
-two-fit false true = omega arith
-two-fit false false = omega arith
-
 add-result : tie.Need-add-result
 add-result c = record {
   fits = lt-of-le-of-lt (le-of-eq (ap₂ _+_ (c .before .before .pick64 .ensures) (c .pick642 .ensures)))
-      (two-fit (leb 9223372036854775808 (c .before .before .before .before .before .before .args .bits)) (c .before .rises64 .result));
+      (both-fit 9223372036854775808 4607182418800017408 18446744073709551616 (lit< tt) (leb 9223372036854775808 (c .before .before .before .before .before .before .args .bits)) (c .before .rises64 .result));
 }
 
 returns-3 : tie.Need-returns-3

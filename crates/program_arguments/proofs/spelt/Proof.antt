@@ -4,7 +4,7 @@ use mathlib.Core.Path.{_≡_, refl, sym, _∙_, ap}
 use native.Mathlib.Omega.{arith}
 use borrow.Author.Needs.{needs}
 use lib.ListN.{length, drop}
-use Rattle.program_arguments.specs.Arguments.{numeral, held}
+use Rattle.program_arguments.specs.Arguments.{numeral, fitting}
 use Rattle.program_arguments.proofs.Numerals.{product-lt, beyond, no-digit, read-on, all-read}
 use Rattle.program_arguments.proofs.spelt.Statement.{statement}
 use Rattle.program_arguments.proofs.spelt.Tie as tie
@@ -61,7 +61,7 @@ returns-2 c =
     let given = c .before .before .before .before .before .before .before .args in
     let loop = c .before .before .before .before .before .loop in
     let next = loop .value * given .base + c .before .before .digit .result in
-    sym (ap held (reads-on (c .before)) ∙ beyond (given .base) next (drop (loop .i + 1) (given .text .now)) (omega arith) (omega arith))
+    sym (ap fitting (reads-on (c .before)) ∙ beyond (given .base) next (drop (loop .i + 1) (given .text .now)) (omega arith) (omega arith))
 
 cast-value : tie.Need-cast-value Inv-loop μ-loop
 cast-value c = search needs

@@ -29,7 +29,7 @@ returns c =
       copied (now (a .b)) (now (a .out)) (p .before .before .before .before .pre .0)
           (p .before .before .before .before .pre .1) (p .copy .ensures .1),
     )
-    (ap (λ (x : ℕ). set (now (a .b)) (a .bit / 8) (bitXor (getD (now (a .b)) (a .bit / 8) 0) x)) (c .mark .ensures))
+    (ap (λ (x : ℕ). set (now (a .b)) (a .bit / 8) (bitXor (getD (now (a .b)) (a .bit / 8) 0) x)) (c .weight .ensures))
 
 returns-2 : tie.Need-returns-2
 returns-2 c =
