@@ -10,7 +10,7 @@ use lib.ListN.{length, take, drop, length-drop}
 use lib.Seq.{drop-drop}
 use Rattle.finder_windows.specs.Definition.{bits, mark, window, distance, stands, refusal, first-from, find}
 use Rattle.finder_windows.proofs.Refusals.{admitted, find-searched}
-use Rattle.capture_meetings.specs.Meetings.{Meeting, met, all-from, places, meetings, shift, segment, first-of, barred, any, ending}
+use Rattle.capture_meetings.specs.Meetings.{Meeting, met, all-from, places, meetings, shift, segment, first-of, any, ending}
 use Rattle.capture_meetings.proofs.Laws.{shift-none, shift-zero, shift-shift, shift-append, cut, carry}
 
 -- pieces, one after the other

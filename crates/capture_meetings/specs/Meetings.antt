@@ -1,10 +1,10 @@
 -- Every position of a capture at which the marker is met, in order, over lists of bits.
 use Prim.Native.Nat.{ℕ, zero, suc, _+_, _-_}
-use mathlib.Core.Bool.{Bool, true, false, cond, _||_}
+use mathlib.Core.Bool.{Bool, true, false, cond}
 use mathlib.Core.List.{List, [], _∷_, _++_}
 use lib.Dec.{ltb, eqb}
 use lib.ListN.{length, take, drop}
-use Rattle.finder_windows.specs.Definition.{window, distance, Answer, found, refused, stands}
+use Rattle.finder_windows.specs.Definition.{window, distance, Answer, found, refused, stands, barred}
 
 -- Where the marker is met, with the distances of the window there and of the one a frame later.
 pub data Meeting : Type 0 where
@@ -38,10 +38,6 @@ segment stream m t L k w = shift k (meetings (take (w + (L + 31)) (drop k stream
 abbrev pub first-of : List Meeting → Answer
 first-of [] = refused 11
 first-of (met p d e ∷ ms) = found p d e
-
--- "8 tolerance above 8; 9 L outside 64 to 65,536": what is refused whatever the capture, or 0.
-abbrev pub barred : ℕ → ℕ → ℕ
-barred t L = cond (ltb 8 t) 8 (cond (ltb L 64 || ltb 65536 L) 9 0)
 
 -- Whether there are any.
 abbrev pub any : List Meeting → Bool

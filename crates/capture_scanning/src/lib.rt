@@ -6,7 +6,7 @@ ghost use mathlib.Core.List.{List, []};
 ghost use lib.Dec.{ltb};
 ghost use lib.ListN.{length};
 ghost use Rattle.finder_windows.specs.Definition.{bits};
-ghost use Rattle.capture_meetings.specs.Meetings.{meetings, barred, any, ending};
+ghost use Rattle.capture_meetings.specs.Meetings.{meetings, any, ending};
 ghost use Rattle.capture_history.specs.State.{Stands};
 pub use capture_feeding::feed;
 use capture_history::CAPTURE;
@@ -24,19 +24,6 @@ pub fn start() -> Scan
         filled: 0,
         from: 0,
     }
-}
-
-// The refusals that no byte of the capture is needed for, or 0.
-pub fn refusal(tolerance: u32, frame: u32) -> u8
-    ensures { λ r. ⌜ r ≡ barred tolerance frame ⌝ }
-{
-    if tolerance > 8 {
-        return 8;
-    }
-    if (frame < 64) | (frame > 65536) {
-        return 9;
-    }
-    0
 }
 
 // Whether a capture that has come whole is shorter than a frame and a marker.
@@ -58,7 +45,7 @@ fn is_short(scan: Scan, frame: u32) -> bool
 pub fn end(scan: Scan, tolerance: u32, frame: u32, met: bool) -> u8
     ensures { λ r. ⌜ ((m X window : List ℕ) → Stands frame X window scan → met ≡ any (meetings (bits X) m tolerance frame) → r ≡ ending (bits X) m tolerance frame) ⌝ }
 {
-    let refused = refusal(tolerance, frame);
+    let refused = finder_windows::barred(tolerance, frame);
     if refused != 0 {
         return refused;
     }

@@ -8,9 +8,9 @@ use native.Mathlib.Omega.{arith}
 use borrow.Author.Tests.{lt-ltb, leb-true, le-leb, eqb-true, eqb-false}
 use lib.Dec.{ltb, eqb}
 use lib.ListN.{length}
-use Rattle.finder_windows.specs.Definition.{bits, mark, window, distance, Answer, found, refused, stands, refusal, first-from, find}
+use Rattle.finder_windows.specs.Definition.{bits, mark, window, distance, Answer, found, refused, stands, refusal, barred, first-from, find}
 use Rattle.finder_windows.proofs.Positions.{none}
-use Rattle.finder_windows.proofs.Refusals.{admitted, find-searched}
+use Rattle.finder_windows.proofs.Refusals.{admitted, find-refused, find-searched}
 
 -- The marker is met at p and again a frame later: both windows are inside the buffer, and each differs from the marker in at most t bits.
 pub record Met (buffer : List ℕ) (marker t L p : ℕ) : Type 0 where
@@ -156,15 +156,14 @@ module _ (buffer : List ℕ) (marker t L : ℕ) where
       → find buffer marker t L ≡ refused 11
   once-is-never-reported judged h = none-given judged (λ q m. omega (arith, h q (m .here), m .again))
 
--- The arguments alone decide 8 and 9: what an empty buffer is refused with, but for 10, every buffer is.
-arguments-decide-by : (a b : Bool) (m t L : ℕ) (n : ℕ) → ltb 8 t ≡ a → (ltb L 64 || ltb 65536 L) ≡ b → find [] m t L ≡ refused n → (n ≡ 10 → ⊥)
-    → (buffer : List ℕ) → find buffer m t L ≡ find [] m t L
-unfolding find bits
-arguments-decide-by true b m t L n ea eb e h buffer = rw ea
-arguments-decide-by false true m t L n ea eb e h buffer = rw (ea, eb)
-arguments-decide-by false false m t L n ea eb e h buffer =
-    let ten : refused 10 ≡ refused n = rw (ea, eb, lt-ltb 0 (L + 32) (omega arith)) at e in
-    absurd (h (sym cc))
+-- The arguments alone decide 8 and 9: no byte of the buffer is needed for them.
+pub arguments-decide : (m t L : ℕ) → (barred t L ≡ 0 → ⊥) → (buffer : List ℕ) → find buffer m t L ≡ refused (barred t L)
+arguments-decide m t L h buffer = sym (find-refused buffer m t L (go (ltb 8 t) (ltb L 64 || ltb 65536 L) _ h) h)
+  where
+    given : Bool → Bool → ℕ → ℕ
+    given a b later = cond a 8 (cond b 9 later)
 
-pub arguments-decide : (m t L n : ℕ) → find [] m t L ≡ refused n → (n ≡ 10 → ⊥) → (buffer : List ℕ) → find buffer m t L ≡ find [] m t L
-arguments-decide m t L n = arguments-decide-by (ltb 8 t) (ltb L 64 || ltb 65536 L) m t L n refl refl
+    go : (a b : Bool) (later : ℕ) → (given a b 0 ≡ 0 → ⊥) → given a b 0 ≡ given a b later
+    go true b later h = refl
+    go false true later h = refl
+    go false false later h = absurd (h refl)

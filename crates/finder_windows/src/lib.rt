@@ -5,7 +5,7 @@ ghost use mathlib.Core.Path.{_≡_};
 ghost use mathlib.Core.Bool.{cond, _&&_};
 ghost use lib.Dec.{ltb, leb};
 ghost use lib.ListN as List;
-ghost use Rattle.finder_windows.specs.Definition.{binary, bits, mark, distance, found, refused, refusal};
+ghost use Rattle.finder_windows.specs.Definition.{binary, bits, mark, distance, found, refused, refusal, barred};
 ghost use Rattle.finder_windows.specs.Answer.{answer-of};
 
 // "tolerance above 8"
@@ -63,6 +63,19 @@ fn is_short(buffer: &[u8], length: u32) -> bool
     ensures { λ r. ⌜ r ≡ ltb (List.length (bits (now (buffer .entry)))) (length + 32) ⌝ }
 {
     buffer.len() < (length as usize + 39) / 8
+}
+
+// What is refused whatever the buffer, or 0.
+pub fn barred(tolerance: u32, length: u32) -> u8
+    ensures { λ r. ⌜ r ≡ barred tolerance length ⌝ }
+{
+    if tolerance > 8 {
+        return TOLERANCE;
+    }
+    if (length < 64) | (length > 65536) {
+        return LENGTH;
+    }
+    0
 }
 
 // What is refused before the search, or 0. "in that order": the last is laid first.

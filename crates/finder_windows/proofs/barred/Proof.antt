@@ -1,7 +1,7 @@
--- `capture_scanning::refusal` meets its contract. Assumes nothing.
+-- `finder_windows::barred` meets its contract. Assumes nothing.
 use borrow.Author.Tests.{le-ltb, lt-ltb}
-use Rattle.capture_scanning.proofs.refusal.Statement.{statement}
-use Rattle.capture_scanning.proofs.refusal.Tie as tie
+use Rattle.finder_windows.proofs.barred.Statement.{statement}
+use Rattle.finder_windows.proofs.barred.Tie as tie
 
 returns : tie.Need-returns
 returns c = simp (lt-ltb _ _ (c .if1 .taken))
@@ -12,5 +12,5 @@ returns-2 c = simp (le-ltb _ _ (c .before .if1 .left), c .if2 .taken)
 returns-3 : tie.Need-returns-3
 returns-3 c = simp (le-ltb _ _ (c .before .if1 .left), c .if2 .left)
 
-pub refusal-spec : {M : Type 1} → statement M
-refusal-spec = tie.close (tie.spec returns returns-2 returns-3)
+pub barred-spec : {M : Type 1} → statement M
+barred-spec = tie.close (tie.spec returns returns-2 returns-3)
