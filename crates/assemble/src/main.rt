@@ -2,6 +2,7 @@
 // no step, and why.
 use libc::STDERR_FILENO;
 use libc::STDOUT_FILENO;
+use program_status::STATUS_FILENO;
 
 fn main() {
     if os::arg_count() > 1 {
@@ -25,7 +26,9 @@ fn main() {
     let bytes = told.output;
     if !io::write_all(STDOUT_FILENO, &output[..bytes]) {
         os::fail(b"assemble: standard output");
+        return;
     }
     let words = told.said;
     io::write_all(STDERR_FILENO, &said[..words]);
+    io::write_all(STATUS_FILENO, &program_status::digit(words == 0));
 }

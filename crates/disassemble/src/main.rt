@@ -1,6 +1,7 @@
 // The program `disassemble`: reads a step list from standard input and writes its text to standard output; where the list is refused, a line to standard error.
 use libc::STDERR_FILENO;
 use libc::STDOUT_FILENO;
+use program_status::STATUS_FILENO;
 
 fn main() {
     if os::arg_count() > 1 {
@@ -24,7 +25,9 @@ fn main() {
     let bytes = told.output;
     if !io::write_all(STDOUT_FILENO, &output[..bytes]) {
         os::fail(b"disassemble: standard output");
+        return;
     }
     let words = told.said;
     io::write_all(STDERR_FILENO, &said[..words]);
+    io::write_all(STATUS_FILENO, &program_status::digit(words == 0));
 }

@@ -7,6 +7,7 @@ ghost use Rattle.program_digits.specs.Put.{Filled};
 ghost use Rattle.fold.specs.Text.{links, links-in, text};
 use libc::STDERR_FILENO;
 use libc::STDOUT_FILENO;
+use program_status::STATUS_FILENO;
 
 const LINK: usize = 17;
 
@@ -80,5 +81,8 @@ fn main() {
     let written = answer(bytes, n, &mut out);
     if !io::write_all(STDOUT_FILENO, &out[..written]) {
         os::fail(b"fold: standard output");
+        return;
     }
+    let good = program_status::is_good(&out[..written]);
+    io::write_all(STATUS_FILENO, &program_status::digit(good));
 }

@@ -1,10 +1,13 @@
 // The program `lease` (document 02, order 12): reads a step list from standard input, starts from zero registers and scalar i32 0 as `lanes` does, takes the
 // list up at a place under a limit, and again after each pause at the place reported, until it ends or is refused. A line for each call; then the listing that
 // `lanes` writes, with the counts added up.
+mod calls;
+
+use calls::lease;
 use libc::STDERR_FILENO;
 use libc::STDOUT_FILENO;
 use program_arguments::Numeral;
-use program_listing::lease::lease;
+use program_status::STATUS_FILENO;
 
 struct Task {
     place: u32,
@@ -56,5 +59,8 @@ fn main() {
     let written = lease(&list[..n], task.place, task.limit, &mut out);
     if !io::write_all(STDOUT_FILENO, &out[..written]) {
         os::fail(b"lease: standard output");
+        return;
     }
+    let good = program_status::is_good(&out[..written]);
+    io::write_all(STATUS_FILENO, &program_status::digit(good));
 }

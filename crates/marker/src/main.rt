@@ -7,10 +7,10 @@ ghost use mathlib.Core.List.{List, []};
 ghost use Rattle.finder_windows.specs.Definition.{find};
 ghost use Rattle.program_digits.specs.Put.{Filled};
 ghost use Rattle.program_reports.specs.Lines.{marker};
-use finder::Answer;
 use libc::STDERR_FILENO;
 use libc::STDOUT_FILENO;
 use program_arguments::Numeral;
+use program_status::STATUS_FILENO;
 
 struct Task {
     marker: u32,
@@ -38,7 +38,10 @@ fn report(buffer: &[u8], task: Task) {
     let n = answer(buffer, task, &mut out);
     if !io::write_all(STDOUT_FILENO, &out[..n]) {
         os::fail(b"marker: standard output");
+        return;
     }
+    let good = program_status::is_good(&out[..n]);
+    io::write_all(STATUS_FILENO, &program_status::digit(good));
 }
 
 // An argument of Linux has fewer than 131,072 bytes, so each comes whole, whatever zeros it begins with.
@@ -74,14 +77,11 @@ fn read_arguments() -> Asked {
     })
 }
 
-// Whether the arguments alone decide, so that nothing has to be read: an empty buffer is refused with 8 or 9 where every buffer is, and else with 10.
+// Whether the arguments alone decide, so that nothing has to be read: what an empty buffer is answered, every buffer is.
 fn is_decided(task: Task) -> bool
     ensures { λ r. ⌜ (r ≡ true → (bytes : List ℕ) → find bytes (task .marker) (task .tolerance) (task .length) ≡ find [] (task .marker) (task .tolerance) (task .length)) ⌝ }
 {
-    match finder::find(b"", task.marker, task.tolerance, task.length) {
-        Answer::Refused(n) => n != 10,
-        Answer::Found(_, _, _) => false,
-    }
+    finder_windows::barred(task.tolerance, task.length) != 0
 }
 
 fn main() {

@@ -2,6 +2,7 @@
 // put back, up to the first that can not be mended. On standard error a line for each bit put back, and one for the block at which it stopped.
 use libc::STDERR_FILENO;
 use libc::STDOUT_FILENO;
+use program_status::STATUS_FILENO;
 use recording_mending::mend;
 
 // The longest recording is 37 blocks.
@@ -14,8 +15,10 @@ fn write_mended(file: &[u8]) {
         return;
     }
     let mut said = [0u8; 2048];
-    let n = program_reports::mend_said(mended, &mut said);
+    let n = program_recordings::mend_said(mended, &mut said);
     io::write_all(STDERR_FILENO, &said[..n]);
+    let good = (mended.refused == 0) & !mended.stopped;
+    io::write_all(STATUS_FILENO, &program_status::digit(good));
 }
 
 fn main() {

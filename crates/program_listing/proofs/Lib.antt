@@ -1,4 +1,2 @@
-pub mod Calls
 pub mod Kept
 pub mod Lines
-pub mod Moves

@@ -8,7 +8,7 @@ use Rattle.standard.specs.Lanes.{lanes}
 use Rattle.calculator_rules.specs.Definition.{Machine, Outcome, ended, paused, stopped, Ending, start, run}
 use Rattle.program_digits.specs.Codes.{codes}
 use Rattle.program_digits.specs.Digits.{decimal, two-decimals, hex, hex-bytes}
-use Rattle.program_reports.specs.Lines.{count-line}
+use Rattle.program_digits.specs.Lines.{count-line}
 
 -- "one line for each register that is not all zero [..] (`r` and two decimal digits, a space, then 16 bytes in hex, byte 0 first)"; the number of the step
 -- that wrote it "in decimal at the end of each register line, after a space"

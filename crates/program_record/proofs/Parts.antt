@@ -11,7 +11,7 @@ use Rattle.recording_fields.specs.Definition.{wide, same}
 use Rattle.recording_fields.proofs.Words.{same-refl, same-sound}
 use Rattle.program_digits.specs.Codes.{codes}
 use Rattle.program_digits.specs.Digits.{hex, hex-bytes}
-use Rattle.program_reports.specs.Lines.{count-line}
+use Rattle.program_digits.specs.Lines.{count-line}
 use Rattle.program_record.specs.Record.{kind-name, low-four, high-four, scalar-digits, left-line, difference}
 
 -- the bytes of the vector, from one on

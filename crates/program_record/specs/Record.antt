@@ -9,7 +9,7 @@ use Rattle.calculator_rules.specs.Definition.{bytes}
 use Rattle.recording_fields.specs.Definition.{wide, same}
 use Rattle.program_digits.specs.Codes.{codes}
 use Rattle.program_digits.specs.Digits.{hex-bytes}
-use Rattle.program_reports.specs.Lines.{named, count-line}
+use Rattle.program_digits.specs.Lines.{named, count-line}
 use Rattle.program_step.specs.Shown.{shown}
 
 -- "scalar kind after it (0 i32, 1 i64, 2 f32, 3 f64, no other)"

@@ -5,7 +5,7 @@ ghost use Rattle.calculator_rules.specs.Definition.{bytes};
 ghost use Rattle.recording_compare.specs.Answer.{answer-of};
 ghost use Rattle.program_digits.specs.Digits.{hex-bytes};
 ghost use Rattle.program_digits.specs.Put.{Wrote};
-ghost use Rattle.program_reports.specs.Lines.{replay};
+ghost use Rattle.program_recordings.specs.Lines.{replay};
 ghost use Rattle.program_record.specs.Record.{kind-name, scalar-digits, left-line, difference, head, record-text};
 use calculator_rules::fields::byte;
 use program_digits::put;

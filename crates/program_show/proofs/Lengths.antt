@@ -16,8 +16,9 @@ use Rattle.recording_rules.specs.Definition.{next}
 use Rattle.program_digits.specs.Codes.{codes}
 use Rattle.program_digits.specs.Digits.{decimal, hex-bytes}
 use Rattle.program_digits.proofs.Laws.{decimal-length, length-hex-bytes}
-use Rattle.program_reports.specs.Lines.{count-line, replay}
-use Rattle.program_reports.proofs.Lengths.{replay-length}
+use Rattle.program_digits.specs.Lines.{count-line}
+use Rattle.program_recordings.specs.Lines.{replay}
+use Rattle.program_recordings.proofs.Lengths.{replay-length}
 use Rattle.program_step.specs.Shown.{shown}
 use Rattle.program_step.proofs.Written.{shown-length}
 use Rattle.program_record.specs.Record.{kind-name, low-four, high-four, scalar-digits, left-line, difference, head, record-text}

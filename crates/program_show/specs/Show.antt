@@ -8,7 +8,7 @@ use Rattle.recording_layout.specs.Definition as layout
 use Rattle.recording_layout.specs.Definition.{record-at, judged}
 use Rattle.recording_rules.specs.Definition as records
 use Rattle.recording_rules.specs.Definition.{trace-of, next}
-use Rattle.program_reports.specs.Lines.{replay}
+use Rattle.program_recordings.specs.Lines.{replay}
 use Rattle.program_record.specs.Record.{record-text}
 
 -- the record that the definition gives for a step at a place

@@ -2,6 +2,7 @@
 // standard output. Where there is none it writes a line to standard error that says why.
 use libc::STDERR_FILENO;
 use libc::STDOUT_FILENO;
+use program_status::STATUS_FILENO;
 use recording::recorder::Recorded;
 use recording::recorder::record;
 
@@ -12,12 +13,15 @@ fn write_recording(list: &[u8]) {
     if let Recorded::Bytes(length) = recorded {
         if !io::write_all(STDOUT_FILENO, &out[..length]) {
             os::fail(b"record: standard output");
+            return;
         }
+        io::write_all(STATUS_FILENO, &program_status::digit(true));
         return;
     }
     let mut said = [0u8; 32];
-    let n = program_reports::record_said(recorded, &mut said);
+    let n = program_recordings::record_said(recorded, &mut said);
     io::write_all(STDERR_FILENO, &said[..n]);
+    io::write_all(STATUS_FILENO, &program_status::digit(false));
 }
 
 fn main() {

@@ -2,15 +2,16 @@
 // its step, or which is the first that is not, counted from 1, or why the file is no recording.
 ghost use Rattle.recording_rules.specs.Definition as records;
 ghost use Rattle.program_digits.specs.Put.{Filled};
-ghost use Rattle.program_reports.specs.Lines.{replay};
+ghost use Rattle.program_recordings.specs.Lines.{replay};
 use libc::STDERR_FILENO;
 use libc::STDOUT_FILENO;
+use program_status::STATUS_FILENO;
 
 // All bytes that the program writes of a file.
 fn answer(file: &[u8], out: &mut [u8; 32]) -> usize
     ensures { λ r. ⌜ Filled (now (out .entry)) (replay (records.replay (now (file .entry)))) (now (out .exit)) r ⌝ }
 {
-    program_reports::replay(recording::replay::replay(file), out)
+    program_recordings::replay(recording::replay::replay(file), out)
 }
 
 fn main() {
@@ -33,5 +34,8 @@ fn main() {
     let written = answer(&file[..n], &mut out);
     if !io::write_all(STDOUT_FILENO, &out[..written]) {
         os::fail(b"replay: standard output");
+        return;
     }
+    let good = program_status::is_good(&out[..written]);
+    io::write_all(STATUS_FILENO, &program_status::digit(good));
 }

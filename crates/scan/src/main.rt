@@ -10,6 +10,7 @@ use libc::STDERR_FILENO;
 use libc::STDIN_FILENO;
 use libc::STDOUT_FILENO;
 use program_arguments::Numeral;
+use program_status::STATUS_FILENO;
 
 // How many bytes a capture may have.
 const CAPTURE: u64 = 1152921504606846976;
@@ -63,7 +64,9 @@ fn report(n: u8) {
         && io::print_decimal(STDOUT_FILENO, n as u64)
         && io::write_all(STDOUT_FILENO, b"\n")) {
         os::fail(b"scan: standard output");
+        return;
     }
+    io::write_all(STATUS_FILENO, &program_status::digit(n == 0));
 }
 
 // An argument of Linux has fewer than 131,072 bytes, so each comes whole, whatever zeros it begins with.
@@ -414,7 +417,7 @@ fn main() {
         );
         return;
     };
-    let refused = capture_scanning::refusal(task.tolerance, task.length);
+    let refused = finder_windows::barred(task.tolerance, task.length);
     if refused != 0 {
         report(refused);
         return;

@@ -2,6 +2,7 @@
 // and where that is not what the calculator's definition gives, what it gives; then the line that `replay` writes.
 use libc::STDERR_FILENO;
 use libc::STDOUT_FILENO;
+use program_status::STATUS_FILENO;
 
 fn main() {
     if os::arg_count() > 1 {
@@ -23,5 +24,8 @@ fn main() {
     let written = program_show::show(&file[..n], &mut out);
     if !io::write_all(STDOUT_FILENO, &out[..written]) {
         os::fail(b"show: standard output");
+        return;
     }
+    let good = program_status::is_good(&out[..written]);
+    io::write_all(STATUS_FILENO, &program_status::digit(good));
 }

@@ -1,7 +1,7 @@
 -- `program_record::put_answer` meets its contract. Assumes nothing.
 use borrow.Author.Needs.{needs}
 use Rattle.program_digits.specs.Codes.{codes}
-use Rattle.program_reports.specs.Lines.{replay}
+use Rattle.program_recordings.specs.Lines.{replay}
 use Rattle.program_record.proofs.put_answer.Statement.{statement}
 use Rattle.program_record.proofs.put_answer.Tie as tie
 

@@ -5,7 +5,7 @@ use mathlib.Core.Path.{sym, ap}
 use mathlib.Core.List.{_++_}
 use Rattle.recording_fields.specs.Definition as trace
 use Rattle.recording_layout.specs.Definition.{judged}
-use Rattle.program_reports.specs.Lines.{replay}
+use Rattle.program_recordings.specs.Lines.{replay}
 use Rattle.program_digits.proofs.Puts.{then, said-as, filled}
 use Rattle.program_show.specs.Show.{show-judged, show-text}
 use Rattle.program_show.proofs.Lengths.{show-within}

@@ -1,0 +1,77 @@
+// What `replay`, `record` and `mend` write beside files: each function puts all lines of an answer at the start of a lent buffer, and says how many bytes they are.
+ghost use mathlib.Core.Path.{_≡_};
+ghost use Rattle.recording_compare.specs.Answer as trace;
+ghost use Rattle.recording_rules.specs.Answer as records;
+ghost use Rattle.recording_mending.specs.Answer.{mending-of};
+ghost use Rattle.program_digits.specs.Put.{Wrote, Filled};
+ghost use Rattle.program_recordings.specs.Lines.{replay, record-said, bit-line, bit-lines, stop-line, mend-said};
+use program_digits::put;
+use program_digits::put_count;
+use program_digits::put_number;
+use recording_mending::Mending;
+use recording_rules::Recorded;
+
+pub fn replay(answer: recording_compare::Answer, out: &mut [u8; 32]) -> usize
+    ensures { λ r. ⌜ Filled (now (out .entry)) (replay (trace.answer-of answer)) (now (out .exit)) r ⌝ }
+{
+    match answer {
+        recording_compare::Answer::Agrees => put(out, 0, b"agrees\n"),
+        recording_compare::Answer::Differs(record) => put_count(out, 0, b"record ", record as u64),
+        recording_compare::Answer::Refused(number) => put_count(out, 0, b"refused ", number as u64),
+    }
+}
+
+// What `record` says on standard error.
+pub fn record_said(recorded: Recorded, out: &mut [u8; 32]) -> usize
+    ensures { λ r. ⌜ Filled (now (out .entry)) (record-said (records.recorded-of recorded)) (now (out .exit)) r ⌝ }
+{
+    match recorded {
+        Recorded::Bytes(_) => 0,
+        Recorded::Empty => put(out, 0, b"the list is empty\n"),
+        Recorded::Short => put(out, 0, b"record: no room\n"),
+        Recorded::Refused(number) => put_count(out, 0, b"refused ", number as u64),
+    }
+}
+
+fn put_bit(out: &mut [u8], at: usize, block: usize, bit: u16) -> usize
+    ensures { λ r. ⌜ Wrote (now (out .entry)) at (bit-line block bit) (now (out .exit)) r ⌝ }
+{
+    if bit < 4096 {
+        let next = put_number(out, at, b"block ", block as u64);
+        return put_count(out, next, b" bit ", bit as u64);
+    }
+    at
+}
+
+fn put_bits(out: &mut [u8], bits: [u16; 37]) -> usize
+    ensures { λ r. ⌜ Wrote (now (out .entry)) 0 (bit-lines 0 bits) (now (out .exit)) r ⌝ }
+{
+    let mut next = 0;
+    for i in 0..37 {
+        next = put_bit(out, next, i, bits[i]);
+    }
+    next
+}
+
+fn put_stop(out: &mut [u8], at: usize, stopped: bool, block: usize) -> usize
+    ensures { λ r. ⌜ Wrote (now (out .entry)) at (stop-line stopped block) (now (out .exit)) r ⌝ }
+{
+    if stopped {
+        let next = put_number(out, at, b"block ", block as u64);
+        return put(out, next, b" not mended\n");
+    }
+    at
+}
+
+// What `mend` says on standard error.
+pub fn mend_said(mending: Mending, out: &mut [u8; 2048]) -> usize
+    ensures { λ r. ⌜ Filled (now (out .entry)) (mend-said (mending-of mending)) (now (out .exit)) r ⌝ }
+{
+    let refused = mending.refused;
+    if refused != 0 {
+        return put_count(out, 0, b"refused ", refused as u64);
+    }
+    let bits = mending.bits;
+    let next = put_bits(out, bits);
+    put_stop(out, next, mending.stopped, mending.written)
+}
