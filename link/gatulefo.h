@@ -10,19 +10,20 @@
  *
  * Refusals. Where a call may refuse, the number of the refusal comes back in the answer, 0 for none: 1 a list's length; 2 an operation without a step; 3 a
  * register above 15; 4 a lane not below the lane count; 5 a shuffle index above 31; 6 a scalar of the wrong kind; 7 an access past the end; 8 to 11 the
- * finder's; 12 rows that differ in length or are odd; 13 to 15 a recording's length, checks and layout; 16 an output shorter than the input; 17 and 19 a
- * run's limit and place; 18 more than 16 links. A refused call has written nothing, and the value in its answer is 0; of gatulefo_run the steps before the
- * refused one stay done. A load or a store that is refused with 7 says how far past the end it runs.
+ * finder's and a scan's; 12 rows that differ in length or are odd; 13 to 15 a recording's length, checks and layout; 16 an output shorter than the input; 17
+ * and 19 a run's limit and place; 18 more than 16 links. A refused call has written nothing, and the value in its answer is 0; of gatulefo_run the steps
+ * before the refused one stay done. A load or a store that is refused with 7 says how far past the end it runs.
  *
  * Pointers. Each points to as many elements as the length beside it says, aligned as its type is; with the length 0 it may be NULL. An `out` is only written
  * and need not be set before. Two pointers of one call may overlap where both are const. Else they may not: the two rows of a gatulefo_row_ or
  * gatulefo_vector_row_ call, the registers, the numbers beside them and the list or step of gatulefo_run and gatulefo_step, the links and `out` of
- * gatulefo_fold, the list or file and `out` of gatulefo_record and gatulefo_mend. While a call runs no other thread writes what it reads, or reads or writes
- * what it writes. The library keeps no state, so any number of threads may call it at once.
+ * gatulefo_fold, the list or file and `out` of gatulefo_record and gatulefo_mend, the window and the piece of gatulefo_scan_feed. While a call runs no other
+ * thread writes what it reads, or reads or writes what it writes. The library keeps no state, so any number of threads may call it at once.
  *
  * Tail calls. A function that hands back a struct of more than 16 bytes writes it to a place on the caller's stack, and a handler that has such a place
- * cannot end in a jump to the next one. The functions behind gatulefo_value_ hand back the vector alone, in registers; so do all that cannot refuse, and an
- * extract and a store hand back their structs of 16 bytes in registers. Of the stack gatulefo_find takes 11 KiB, and no other function 2 KiB.
+ * cannot end in a jump to the next one. The functions behind gatulefo_value_ hand back the vector alone, in registers; so do all operations that cannot
+ * refuse, and an extract and a store hand back their structs of 16 bytes in registers. Of the stack gatulefo_find takes 11 KiB and gatulefo_scan_columns 10
+ * KiB, and no other function 2 KiB.
  *
  * Above a declaration stands what the function does, and then its promise. The promise's words stand in crates/standard/specs, and in the specs of the crates
  * that its source names. `number` is the number of a vector's 128 bits, and `r` is what comes back.
@@ -127,6 +128,28 @@ typedef struct {
     uint16_t differs;
     uint8_t refused;
 } gatulefo_replay_answer;
+
+/* How far a capture has come: how many of its bytes lie before the window, how many are in it, and the bit of the window at which the search goes on. */
+typedef struct {
+    uint64_t before;
+    size_t filled;
+    size_t from;
+} gatulefo_scan_state;
+
+/* How many bytes of a piece were taken, and the state then. */
+typedef struct {
+    size_t used;
+    gatulefo_scan_state state;
+} gatulefo_fed_state;
+
+/* The next meeting, with its position in the capture and both distances, where `met` is true; else these are 0, and nothing more is met in what has come. */
+typedef struct {
+    uint64_t position;
+    uint32_t first;
+    uint32_t second;
+    bool met;
+    gatulefo_scan_state state;
+} gatulefo_meeting_or_none;
 
 /* Lane by lane integer arithmetic. */
 
@@ -1283,6 +1306,31 @@ uint8_t gatulefo_row_v128_xor(uint64_t *first, size_t first_length, const uint64
  * r ≡ half-refusal (length (now (first .entry))) (length (now (first .entry)))
  * now (first .exit) ≡ after r (halves (map (unary 8 (ipopcnt 8)) (vectors (now (first .entry))))) (now (first .entry)) */
 uint8_t gatulefo_row_i8x16_popcnt(uint64_t *first, size_t first_length);
+
+/* Captures of any length (document 02, order 5, every position): where a marker stands and stands again one frame later, in order, each once, from pieces of any size.
+ * The caller keeps the state from one call to the next and lends a window of more than (length + 38) / 8 bytes, 8,197 for any length, and a table of columns. Ask
+ * for meetings until there is none before the next piece is fed: then some bytes of each piece are taken. */
+
+/* The columns of a marker and a tolerance, made once for a scan.
+ * Columns marker tolerance (now (table .exit)) */
+void gatulefo_scan_columns(uint64_t table[1280], uint32_t marker, uint32_t tolerance);
+
+/* The state of a capture of which nothing has come.
+ * ((L : ℕ) (window : List ℕ) → 64 ≤ L → Stands L [] window (scan-in r)) */
+gatulefo_scan_state gatulefo_scan_start(void);
+
+/* Takes as much of a piece as the window has room for.
+ * ((L : ℕ) (X : List ℕ) → Stands L X (now (window .entry)) (scan-in state) → Taken L X (now (piece .entry)) (now (window .exit)) (scan-in state) (fed-in r)) */
+gatulefo_fed_state gatulefo_scan_feed(uint8_t *window, size_t window_length, gatulefo_scan_state state, const uint8_t *piece, size_t piece_length);
+
+/* The next meeting in what has come.
+ * ((X : List ℕ) → Stands length X (now (window .entry)) (scan-in state) → Columns marker tolerance (now (table .entry)) → Told marker tolerance length X (now (window .entry)) (scan-in state) (next-in r)) */
+gatulefo_meeting_or_none gatulefo_scan_next(const uint8_t *window, size_t window_length, gatulefo_scan_state state, const uint64_t table[1280], uint32_t marker, uint32_t tolerance, uint32_t length);
+
+/* What the scan of a capture that has come whole ends with: 0, or the number of its refusal. `met` is whether anything was met. Of the first state it is 8 or 9 where
+ * the tolerance or the length is refused, and else 10: ask so before a scan begins.
+ * ((m X window : List ℕ) → Stands length X window (scan-in state) → met ≡ any (meetings (bits X) m tolerance length) → r ≡ ending (bits X) m tolerance length) */
+uint8_t gatulefo_scan_end(gatulefo_scan_state state, uint32_t tolerance, uint32_t length, bool met);
 
 /* Shifts, the count taken modulo the lane width. */
 

@@ -216,8 +216,28 @@ static uint64_t call_indices(struct room room) {
     return sum;
 }
 
+/* A window of n bytes against one end of the room and a piece of zeros against the other. */
+static uint64_t call_scans(struct room room) {
+    uint64_t *table = (uint64_t *)(room.start + 2 * PAGE), sum = 0;
+    gatulefo_scan_columns(table, 0, 0);
+    for (size_t n = 0; n <= 200; n++)
+        for (int at_end = 0; at_end < 2; at_end++) {
+            size_t taken = n < 100 ? n : 100;
+            uint8_t *window = n ? at_end ? room.end - n : room.start : NULL, *piece = at_end ? room.start : room.end - 100;
+            memset(piece, 0, 100);
+            gatulefo_fed_state fed = gatulefo_scan_feed(window, n, gatulefo_scan_start(), piece, 100);
+            expect(fed.used == taken && fed.state.filled == taken, "scan_feed");
+            gatulefo_meeting_or_none next = gatulefo_scan_next(window, n, fed.state, table, 0, 0, 64);
+            expect(next.met == (taken >= 12) && next.position == 0, "scan_next");
+            fed = gatulefo_scan_feed(window, n, next.state, NULL, 0);
+            expect(fed.used == 0 && gatulefo_scan_end(fed.state, 0, 64, next.met) == (next.met ? 0 : 10), "scan_end");
+            sum = sum * 31 + next.state.from;
+        }
+    return sum;
+}
+
 static uint64_t call_all(struct room room) {
-    return call_accesses(room) + 3 * call_rows(room) + 5 * call_lists(room) + 7 * call_files(room) + 11 * call_indices(room);
+    return call_accesses(room) + 3 * call_rows(room) + 5 * call_lists(room) + 7 * call_files(room) + 11 * call_indices(room) + 13 * call_scans(room);
 }
 
 static void *thread(void *sum) {

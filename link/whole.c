@@ -1,5 +1,5 @@
 /* The functions that answer no request of the program `direct`, called from C, for link/check: what the programs `marker`, `lease`, `fold`, `record`, `replay` and `mend` do
- * with standard input, once more over the library, in their words.
+ * with standard input, once more over the library, in their words. What `scan` does, link/scan.c does.
  *
  *   whole marker MARKER TOLERANCE LENGTH < CAPTURE
  *   whole lease PLACE LIMIT < LIST

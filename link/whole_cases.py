@@ -1,5 +1,5 @@
-"""What link/whole.c is asked and what it has to answer, for link/check: the examples; and at the limits and for each refusal what documents 01 and 02 say, which is what stands in
-quotation marks. The words are those of the programs (examples/run). No field of an answer is 0 or false in all of them.
+"""What link/whole.c and the examples of a scan are asked and what they have to answer, for link/check: the examples; and at the limits and for each refusal what documents 01 and
+02 say, which is what stands in quotation marks. The words are those of the programs (examples/run). No field of an answer is 0 or false in all of them.
 """
 import re, sys
 from pathlib import Path
@@ -12,6 +12,7 @@ sys.path.insert(0, str(HERE / "compare"))
 # Written from document 02, and not from the programs.
 from second_mender import flipped
 from second_recorder import BLOCK, packed
+from second_scan import scan
 
 EXAMPLES = HERE / "examples"
 
@@ -64,6 +65,12 @@ MARKERS = [
     ("00000000 8 64", 65537, b"refused 10\n"),
     ("000001ff 8 64", 12, b"refused 11\n"),
 ]
+
+# Scans of frames, many bytes of zeros and the frames once more: with meetings in both, with many, with none, in a capture that is too short. With a tolerance of 16 and with a length
+# of 63 some would be met where it was not refused.
+SCANS = ["1acffc1d 2 8192", "00000000 0 64", "00000000 8 65536", "ffffffff 0 70", "1acffc1d 16 64", "00000000 2 63"]
+
+PIECES = (1, 7, 1000, 8197, 65536)
 
 # One lane of a row's result, of the lanes of both rows (document 01, "Lane rules").
 ROWS = {"add": lambda x, y: (x + y) % 256, "xor": lambda x, y: x ^ y, "popcnt": lambda x, y: x.bit_count()}
@@ -201,6 +208,17 @@ def mend_cases():
     for file in (b"", LONGEST[:511], LONGEST + LONGEST[:BLOCK]):
         yield Case("mend 0", file, b"", b"refused 13\n")
     yield Case("mend 18943", arrived, b"", b"refused 16\n")
+
+
+def scan_cases():
+    """What the examples of a scan are asked: in pieces of several sizes, the whole and a part that is too short for the longest frame."""
+    frames = (EXAMPLES / "frames.capture").read_bytes()
+    for capture in (frames + bytes(30000) + frames, bytes(8195)):
+        for words in SCANS:
+            marker, tolerance, length = words.split()
+            wanted = scan(capture, int(marker, 16), int(tolerance), int(length)).encode()
+            for piece in PIECES:
+                yield Case("%s %d" % (words, piece), capture, wanted)
 
 
 def row_cases():

@@ -51,7 +51,8 @@ module _ (m : List ℕ) (t L : ℕ) where
 
   -- a capture X and a window W that has what is left of it after some bytes
   module _ (X W : List ℕ) (before from : ℕ) (fits : before ≤ length X) (tail : W ≡ drop before X) where
-    over : (n p : ℕ) → all-from (bits X) m t L n (8 * before + p) ≡ shift (8 * before) (all-from (bits W) m t L n p)
+    -- what is met in the window, at its places in the capture
+    pub over : (n p : ℕ) → all-from (bits X) m t L n (8 * before + p) ≡ shift (8 * before) (all-from (bits W) m t L n p)
     over n p =
         agree m t L (bits X) (bits W) (8 * before) n p
         (λ q a b. sym (ap (λ (z : List ℕ). window z q) (ap bits tail ∙ bits-drop X before fits) ∙ window-after (bits X) (8 * before) q))

@@ -20,6 +20,7 @@ pub mod reduce;
 pub mod relaxed;
 pub mod replace;
 pub mod row;
+pub mod scan;
 pub mod shift;
 pub mod shortfall;
 pub mod splat;

@@ -1,5 +1,4 @@
-// Captures of any length, as C and Rust link them: every position at which a marker is met, in pieces of any size. The caller lends a window, of more than
-// (length + 38) / 8 bytes, and a table for the marker's columns, and keeps the state from one call to the next.
+// Captures of any length, as C and Rust are handed them: the functions of `capture_scanning` with plain numbers in place of its values. `gatulefo` exports them.
 ghost use Prim.Native.Nat.{ℕ, _≤_};
 ghost use mathlib.Core.Path.{_≡_};
 ghost use mathlib.Core.List.{List, []};
@@ -84,16 +83,14 @@ fn meeting_or_none(next: Next) -> MeetingOrNone
 }
 
 // The state of a capture of which nothing has come.
-#[no_mangle]
-pub extern "C" fn gatulefo_scan_start() -> ScanState
+pub fn start() -> ScanState
     ensures { λ r. ⌜ ((L : ℕ) (window : List ℕ) → 64 ≤ L → Stands L [] window (scan-in r)) ⌝ }
 {
     handed_out(capture_scanning::start())
 }
 
 // Takes as much of a piece as the window has room for.
-#[no_mangle]
-pub extern "C" fn gatulefo_scan_feed(window: &mut [u8], state: ScanState, piece: &[u8]) -> FedState
+pub fn feed(window: &mut [u8], state: ScanState, piece: &[u8]) -> FedState
     ensures { λ r. ⌜ ((L : ℕ) (X : List ℕ) → Stands L X (now (window .entry)) (scan-in state) → Taken L X (now (piece .entry)) (now (window .exit)) (scan-in state) (fed-in r)) ⌝ }
 {
     let fed = capture_scanning::feed(window, taken_in(state), piece);
@@ -104,8 +101,7 @@ pub extern "C" fn gatulefo_scan_feed(window: &mut [u8], state: ScanState, piece:
 }
 
 // The next meeting in what has come.
-#[no_mangle]
-pub extern "C" fn gatulefo_scan_next<'a>(
+pub fn next<'a>(
     window: &'a [u8],
     state: ScanState,
     table: &'a [u64; 1280],
@@ -126,16 +122,14 @@ pub extern "C" fn gatulefo_scan_next<'a>(
 }
 
 // What the scan of a capture that has come whole ends with: 0, or the number of its refusal.
-#[no_mangle]
-pub extern "C" fn gatulefo_scan_end(state: ScanState, tolerance: u32, length: u32, met: bool) -> u8
+pub fn end(state: ScanState, tolerance: u32, length: u32, met: bool) -> u8
     ensures { λ r. ⌜ ((m X window : List ℕ) → Stands length X window (scan-in state) → met ≡ any (meetings (bits X) m tolerance length) → r ≡ ending (bits X) m tolerance length) ⌝ }
 {
     capture_scanning::end(taken_in(state), tolerance, length, met)
 }
 
 // The columns of a marker and a tolerance, made once for a scan.
-#[no_mangle]
-pub extern "C" fn gatulefo_scan_columns(table: &mut [u64; 1280], marker: u32, tolerance: u32)
+pub fn columns(table: &mut [u64; 1280], marker: u32, tolerance: u32)
     ensures { λ _. ⌜ Columns marker tolerance (now (table .exit)) ⌝ }
 {
     let made = finder_columns::columns(marker, tolerance);

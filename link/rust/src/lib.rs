@@ -12,6 +12,7 @@
 //! | [`calculator`] | steps and lists of steps over sixteen registers |
 //! | [`recording`] | runs recorded, replayed and mended |
 //! | [`finder`] | the marker finder |
+//! | [`scan`] | every position at which a marker stands, of a capture of any length that comes in pieces |
 //!
 //! Where a whole interpreter is to run on it, the repository's `link/mount` puts a module over this crate in the place of wasmi_core's own file.
 //!
@@ -37,6 +38,7 @@ pub mod recording;
 mod refusal;
 pub mod rows;
 mod scalar;
+pub mod scan;
 pub mod simd;
 mod v128;
 

@@ -1,6 +1,7 @@
 //! Calls of the archive. A vector is handed over as its two halves, each a number, and a slice as its pointer and its length: so the archive's own code has
 //! them, and with link-time optimisation LLVM puts a function into its caller only where both have the same arguments.
 
+use crate::scan::ScanState;
 use crate::simd::ImmLaneIdx;
 
 /// An argument that is handed over as one number.
@@ -28,7 +29,7 @@ macro_rules! as_it_is {
         }
     )* };
 }
-as_it_is!(u8, u16, u32, u64, usize);
+as_it_is!(bool, u8, u16, u32, u64, usize, ScanState);
 
 macro_rules! by_bits {
     ( $( $ty:ty as $bits:ty: $how:expr; )* ) => { $(

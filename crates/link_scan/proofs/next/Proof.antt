@@ -1,12 +1,12 @@
--- `link_scan::gatulefo_scan_next` meets its contract. Assumes nothing.
+-- `link_scan::next` meets its contract. Assumes nothing.
 use mathlib.Core.Path.{sym, subst}
 use borrow.Author.Needs.{needs}
 use Rattle.capture_history.specs.State.{Stands, Told}
 use Rattle.capture_history.specs.declared.Scan.{Scan}
 use Rattle.capture_history.specs.declared.Next.{Next}
 use Rattle.link_scan.specs.Numbers.{scan-in}
-use Rattle.link_scan.proofs.gatulefo_scan_next.Statement.{statement}
-use Rattle.link_scan.proofs.gatulefo_scan_next.Tie as tie
+use Rattle.link_scan.proofs.next.Statement.{statement}
+use Rattle.link_scan.proofs.next.Tie as tie
 
 taken-in-requires : tie.Need-taken-in-requires
 taken-in-requires c κs = search needs
@@ -26,5 +26,5 @@ returns c = λ X s made.
     (sym (c .meeting-or-none .ensures))
     (subst (λ (z : Scan). Told (given .marker) (given .tolerance) (given .length) X (given .window .now) z (c .before .seek .result)) state told)
 
-pub gatulefo-scan-next-spec : {M : Type 1} → statement M
-gatulefo-scan-next-spec = tie.close (tie.spec taken-in-requires seek-requires meeting-or-none-requires returns)
+pub next-spec : {M : Type 1} → statement M
+next-spec = tie.close (tie.spec taken-in-requires seek-requires meeting-or-none-requires returns)

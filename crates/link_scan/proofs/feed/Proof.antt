@@ -1,10 +1,10 @@
--- `link_scan::gatulefo_scan_feed` meets its contract. Assumes nothing.
+-- `link_scan::feed` meets its contract. Assumes nothing.
 use mathlib.Core.Path.{_≡_, sym, ap, subst, _∙_}
 use borrow.Author.Needs.{needs}
 use Rattle.capture_history.specs.State.{place, Stands, Taken}
 use Rattle.capture_history.specs.declared.Scan.{Scan}
-use Rattle.link_scan.proofs.gatulefo_scan_feed.Statement.{statement}
-use Rattle.link_scan.proofs.gatulefo_scan_feed.Tie as tie
+use Rattle.link_scan.proofs.feed.Statement.{statement}
+use Rattle.link_scan.proofs.feed.Tie as tie
 
 taken-in-requires : tie.Need-taken-in-requires
 taken-in-requires c κs = search needs
@@ -29,5 +29,5 @@ returns c = λ L X s.
       on = λ none wide few some. fed .on (ap place state ∙ none) wide few some;
     }
 
-pub gatulefo-scan-feed-spec : {M : Type 1} → statement M
-gatulefo-scan-feed-spec = tie.close (tie.spec taken-in-requires feed-requires handed-out-requires same-length returns)
+pub feed-spec : {M : Type 1} → statement M
+feed-spec = tie.close (tie.spec taken-in-requires feed-requires handed-out-requires same-length returns)
