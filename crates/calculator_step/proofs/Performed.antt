@@ -120,6 +120,19 @@ stored (Shape.Splat k) i m s h = refl
 stored (Shape.Extract n) i m s h = absurd (miss writing 9 tt h)
 stored (Shape.Replace n k) i m s h = refl
 
+pub gives : (x : Shape) → OneOf writing (tagOf the-type x) → profile-of x .gives-vector ≡ true
+gives Shape.None h = absurd (miss writing 0 tt h)
+gives Shape.Constant h = refl
+gives Shape.Shuffle h = refl
+gives Shape.Unary h = refl
+gives Shape.Binary h = refl
+gives Shape.Ternary h = refl
+gives Shape.Shift h = refl
+gives Shape.Test h = absurd (miss writing 7 tt h)
+gives (Shape.Splat k) h = refl
+gives (Shape.Extract n) h = absurd (miss writing 9 tt h)
+gives (Shape.Replace n k) h = refl
+
 -- a step whose operation's shape is x, where the judge says r
 module _ (place : ℕ) (m : Machine) (s : List ℕ) (op r : ℕ) (x : Shape) (o : op ≡ operation s) (d : x ≡ shape (instruction op))
     (j : r ≡ refusal (profile-of x) (m .kind) s) where
@@ -135,3 +148,7 @@ module _ (place : ℕ) (m : Machine) (s : List ℕ) (op r : ℕ) (x : Shape) (o 
   pub stops : (next : Machine) → (r ≡ 0 → ⊥) → cond (eqb r 0) (given next) (refused r) ≡ step place m s
   unfolding step
   stops next n = rw (← o, judged, ne-eqb r 0 n)
+
+  -- the vector that is told, where it is the destination's and where there is none
+  pub tells : (v g : ℕ) → v ≡ cond (profile-of x .gives-vector) g 0 → v ≡ cond (profile (instruction (operation s)) .gives-vector) g 0
+  tells v g e = e ∙ rw (d, o) (ap (λ (p : Profile). cond (p .gives-vector) g 0) (profile-kept (instruction (operation s))))

@@ -1,26 +1,17 @@
 // A step and the trace that it leaves in its record.
 ghost use mathlib.Core.Path.{_≡_};
 ghost use mathlib.Core.Bool.{cond};
-ghost use Prim.Native.Nat.{_+_, _*_, _%_, _^_};
+ghost use Prim.Native.Nat.{_+_, _*_, _^_};
 ghost use lib.Dec.{eqb};
-ghost use lib.ListN.{getD};
-ghost use Rattle.standard.specs.Instruction.{instruction};
 ghost use Rattle.standard.specs.Refusal.{given, refused};
 ghost use Rattle.calculator_rules.specs.Definition;
-ghost use Rattle.simd.specs.Number.{number};
-ghost use Rattle.calculator_state.specs.State.{vectors, held};
+ghost use Rattle.calculator_state.specs.State.{held};
 ghost use Rattle.recording_fields.specs.Definition.{trace};
 ghost use Rattle.recording_rules.specs.Definition.{trace-of, next};
-use calculator_numbering::gives_vector;
-use calculator_rules::fields::byte;
-use calculator_rules::fields::operation;
 use calculator_scalar::Scalar;
-use calculator_shape::decide;
 use calculator_state::kind;
-use calculator_state::registers::get;
 use calculator_step::step;
 use recording_rules::kind_byte;
-use simd::V128;
 
 // The scalar after a step, and its trace: the halves of the vector written, the number of the refusal, the scalar's kind and bits.
 pub struct Left {
@@ -30,19 +21,6 @@ pub struct Left {
     pub refused: u8,
     pub kind: u8,
     pub bits: u64,
-}
-
-// "the 16-byte vector written (zeros if none)", from the registers after the step.
-fn written(w: &[u64; 32], refused: u8, s: &[u8]) -> V128
-    ensures { λ r. ⌜ number r ≡ cond (eqb refused 0) (cond (Definition.profile (instruction (Definition.operation (now (s .entry)))) .gives-vector) (getD (vectors (now (w .entry))) (Definition.destination (now (s .entry)) % 16) 0) 0) 0 ⌝ }
-{
-    if refused != 0 {
-        return V128 { lo: 0, hi: 0 };
-    }
-    if gives_vector(decide(operation(s))) {
-        return get(w, byte(s, 2));
-    }
-    V128 { lo: 0, hi: 0 }
 }
 
 // The step at a place, counted from 0.
@@ -58,14 +36,13 @@ pub fn account(
     ensures answer { λ r. ⌜ cond (eqb (r .refused) 0) (given (held (now (w .exit)) (now (writers .exit)) (r .scalar))) (refused (r .refused)) ≡ Definition.step place (held (now (w .entry)) (now (writers .entry)) scalar) (now (s .entry)) ⌝ }
 {
     let stepped = step(w, writers, scalar, place, s);
-    let refused = stepped.refused;
     let after = stepped.scalar;
-    let v = written(w, refused, s);
+    let v = stepped.written;
     Left {
         scalar: after,
         lo: v.lo,
         hi: v.hi,
-        refused,
+        refused: stepped.refused,
         kind: kind_byte(kind(after)),
         bits: after.bits(),
     }

@@ -37,7 +37,7 @@ returns c =
     let allowed : l .at < a .place + a .limit = omega (arith, k .before .before .before .before .before .before .before .before .before .stop .ensures) in
     let part : 32 * l .at + 32 - 32 * l .at ≡ 32 = omega arith in
     let e : step (l .at) (held (l .w) (l .writers) (l .scalar)) (take 32 (drop (32 * l .at) list)) ≡ refused (k .step .result .refused) = (rw (part, ne-eqb _ _ t) at (sym (k .step .ensures .0))) in
-    let left = k .step .ensures .1 t in
+    let left = k .step .ensures .1 .0 t in
     c .left .ensures ∙ rw (left .0, left .1, left .2)
     (sym (stop n (a .place) (a .limit) (l .at) list (held (l .w) (l .writers) (l .scalar)) (l .inv .0) more allowed _ e) ∙ l .inv .2 ∙ rw (k .before .before .before .before .before .before .before .words .ensures))
 

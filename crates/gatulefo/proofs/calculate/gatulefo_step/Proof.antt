@@ -32,7 +32,7 @@ returns c =
     let s = at-scalar .scalar-of .result in
     let w = now (a .registers) in
     ap (λ (p : ℕ × ℕ). (vectors (at-step .step .last .0), at-step .step .last .1 .0, p, r .refused)) (c .kind-and-bits .ensures)
-    ∙ left (r .refused) w _ (now (a .writers)) _ s (r .scalar) _ (at-step .step .ensures .0) (at-step .step .ensures .1)
+    ∙ left (r .refused) w _ (now (a .writers)) _ s (r .scalar) _ (at-step .step .ensures .0) (at-step .step .ensures .1 .0)
     ∙ ap (λ (m : Machine). left-by-step m (step (a .place) m (now (a .step))))
     (machines (vectors w) w (now (a .writers)) s (a .scalar .kind) (a .scalar .bits) refl (at-scalar .scalar-of .ensures))
 
