@@ -2,7 +2,7 @@
 ghost use mathlib.Core.Path.{_≡_};
 ghost use Rattle.standard.specs.Instruction.{i32, i64, f32, f64, instruction};
 ghost use Rattle.simd.specs.Number.{number};
-ghost use Rattle.simd.specs.Answer.{i32-answer, u32-answer, i64-answer, f32-answer, f64-answer};
+ghost use Rattle.simd.specs.Answers.{i32-answer, u32-answer, i64-answer, f32-answer, f64-answer};
 ghost use Rattle.calculator_scalar.specs.Scalar.{scalar-of};
 ghost use Rattle.calculator_families.specs.Family.{of-kind, as-extract};
 use calculator_scalar::Scalar;

@@ -1,7 +1,7 @@
 // What an answer gives, and something else where it is a refusal.
 ghost use mathlib.Core.Path.{_≡_};
 ghost use Rattle.simd.specs.Number.{number};
-ghost use Rattle.simd.specs.Answer.{vector-answer};
+ghost use Rattle.simd.specs.Answers.{vector-answer};
 ghost use Rattle.calculator_families.specs.Family.{given-or};
 use simd::V128;
 use simd::answer::VectorAnswer;

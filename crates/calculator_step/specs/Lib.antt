@@ -1,2 +1,2 @@
 pub mod Done
-pub mod Answer
+pub mod Stepped

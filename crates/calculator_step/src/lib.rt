@@ -11,7 +11,7 @@ ghost use Rattle.simd.specs.Number.{number};
 ghost use Rattle.calculator_scalar.specs.Scalar.{kind-of, bits-of};
 ghost use Rattle.calculator_state.specs.State.{vectors, held};
 ghost use Rattle.calculator_step.specs.Done.{makes, sets};
-ghost use Rattle.calculator_step.specs.Answer.{answer-of, vector-left};
+ghost use Rattle.calculator_step.specs.Stepped.{answer-of, vector-left};
 use calculator_judging::judge;
 use calculator_numbering::number;
 use calculator_operation::extract::extract;

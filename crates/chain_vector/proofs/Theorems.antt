@@ -7,7 +7,7 @@ use native.Mathlib.Nat.{add-comm, mul-comm}
 use lib.Arith.{digits-lt}
 use Rattle.standard.specs.Refusal.{at-indices}
 use Rattle.standard.specs.Vector.{shuffle}
-use Rattle.simd.specs.Answer.{vector-answer}
+use Rattle.simd.specs.Answers.{vector-answer}
 use Rattle.simd.specs.Number.{number}
 use Rattle.simd.specs.declared.V128.{V128}
 use Rattle.simd.specs.declared.answer.VectorAnswer.{VectorAnswer}

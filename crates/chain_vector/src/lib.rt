@@ -4,7 +4,7 @@ ghost use mathlib.Core.Bool.{true};
 ghost use lib.ListN.{getD};
 ghost use Rattle.standard.specs.Refusal.{legal};
 ghost use Rattle.standard.specs.Vector.{shuffle};
-ghost use Rattle.simd.specs.Answer.{vector-answer};
+ghost use Rattle.simd.specs.Answers.{vector-answer};
 ghost use Rattle.simd.specs.Number.{number};
 ghost use Rattle.chain.specs.Definition.{indices, partner, applied};
 use simd::V128;

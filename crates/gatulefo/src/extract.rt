@@ -1,5 +1,5 @@
 // Extract: the lane at a number below the lane count; any other number is refused with 4.
-ghost use Rattle.link_answers.specs.Answer.{pair};
+ghost use Rattle.link_answers.specs.Handed.{pair};
 ghost use Rattle.simd.specs.Number.{number};
 ghost use Rattle.standard.specs.Integer.{extend-s};
 ghost use Rattle.standard.specs.Lanes.{extract};

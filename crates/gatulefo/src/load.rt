@@ -1,6 +1,6 @@
 // Loads. A lane load tests the lane, 4, before the bounds, 7, and with a 7 comes back how far past the end the access runs.
 // Made by link/exports.
-ghost use Rattle.link_answers.specs.Answer.{access-numbers};
+ghost use Rattle.link_answers.specs.Handed.{access-numbers};
 ghost use Rattle.simd.specs.Number.{number};
 ghost use Rattle.standard.specs.Integer.{extend-s, extend-u};
 ghost use Rattle.standard.specs.Memory.{load, load-splat, load-widen, load-lane};

@@ -2,7 +2,7 @@
 ghost use mathlib.Core.Path.{_≡_};
 ghost use Prim.Native.Nat.{_+_};
 ghost use Rattle.standard.specs.Memory.{within};
-ghost use Rattle.link_answers.specs.Answer.{access-numbers};
+ghost use Rattle.link_answers.specs.Handed.{access-numbers};
 use memory_bounds::Access;
 use memory_bounds::Effective;
 use memory_bounds::reach;

@@ -1,6 +1,6 @@
 // Stores. A lane store tests the lane, 4, before the bounds, 7, and with a 7 comes back how far past the end the access runs.
 // Made by link/exports.
-ghost use Rattle.link_answers.specs.Answer.{store-numbers};
+ghost use Rattle.link_answers.specs.Handed.{store-numbers};
 ghost use Rattle.simd.specs.Number.{number};
 ghost use Rattle.standard.specs.Memory.{store, store-lane, stored};
 ghost use mathlib.Core.Path.{_≡_};

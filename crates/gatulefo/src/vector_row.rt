@@ -3,7 +3,7 @@
 // crate `row_vectors`, since its laws are of a text (row_vectors/proofs/TwoRows.antt, OneRow.antt).
 ghost use Rattle.standard.specs.Integer.{iadd, ixor, ipopcnt};
 ghost use Rattle.standard.specs.Lanes.{unary, binary};
-ghost use Rattle.row_vectors.specs.Answer.{Combined, Mapped};
+ghost use Rattle.row_vectors.specs.Rows.{Combined, Mapped};
 use simd::V128;
 
 // "12 when the two rows differ in length".

@@ -4,11 +4,11 @@
 ghost use Prim.Native.Nat.{ℕ};
 ghost use mathlib.Core.List.{List};
 ghost use mathlib.Core.Path.{_≡_};
-ghost use Rattle.simd.specs.Answer.{vector-answer, i32-answer, u32-answer, i64-answer};
+ghost use Rattle.simd.specs.Answers.{vector-answer, i32-answer, u32-answer, i64-answer};
 ghost use Rattle.simd.specs.Number.{number};
-ghost use Rattle.memory_loads.specs.Answer.{load-answer};
-ghost use Rattle.memory_store_answer.specs.Answer.{store-answer};
-ghost use Rattle.link_answers.specs.Answer.{pair, or-zero, access-numbers, access-or-zero, store-numbers};
+ghost use Rattle.memory_loads.specs.LoadAnswer.{load-answer};
+ghost use Rattle.memory_store_answer.specs.StoreAnswer.{store-answer};
+ghost use Rattle.link_answers.specs.Handed.{pair, or-zero, access-numbers, access-or-zero, store-numbers};
 use lane_integer::reinterpret::unsigned32;
 use lane_integer::reinterpret::unsigned64;
 use memory_bounds::PAST;

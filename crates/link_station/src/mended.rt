@@ -1,6 +1,6 @@
 // What comes back of mending.
 ghost use mathlib.Core.Path.{_≡_};
-ghost use Rattle.recording_mending.specs.Answer.{mending-of};
+ghost use Rattle.recording_mending.specs.Mended.{mending-of};
 ghost use Rattle.link_station.specs.Mending.{mended-of};
 use recording_mending::Mending;
 

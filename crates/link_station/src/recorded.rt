@@ -1,7 +1,7 @@
 // What comes back of the recorder and of a replay.
 ghost use mathlib.Core.Path.{_≡_};
-ghost use Rattle.recording_rules.specs.Answer.{recorded-of};
-ghost use Rattle.recording_compare.specs.Answer.{answer-of};
+ghost use Rattle.recording_rules.specs.Recorded.{recorded-of};
+ghost use Rattle.recording_compare.specs.Verdict.{answer-of};
 ghost use Rattle.link_station.specs.Recording.{recorder-numbers, record-numbers, replayed, replay-numbers};
 use recording_compare::Answer;
 use recording_rules::Recorded;

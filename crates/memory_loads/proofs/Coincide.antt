@@ -7,7 +7,7 @@ use Rattle.standard.specs.Refusal.{Answer, given, refused}
 use Rattle.standard.specs.Memory.{answered, past}
 use Rattle.simd.proofs.Coincide.{Held, vectors-coincide}
 use Rattle.memory_loads.specs.declared.LoadAnswer.{LoadAnswer}
-use Rattle.memory_loads.specs.Answer.{load-answer}
+use Rattle.memory_loads.specs.LoadAnswer.{load-answer}
 
 abbrev pub HeldLoad : LoadAnswer → Type 0
 HeldLoad (LoadAnswer.Vector v) = Held v

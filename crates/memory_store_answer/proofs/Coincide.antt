@@ -6,7 +6,7 @@ use Prim.Native.Nat.{ℕ}
 use native.Mathlib.Omega.{arith}
 use Rattle.standard.specs.Memory.{written, kept, kept-past}
 use Rattle.memory_store_answer.specs.declared.StoreAnswer.{StoreAnswer}
-use Rattle.memory_store_answer.specs.Answer.{store-answer}
+use Rattle.memory_store_answer.specs.StoreAnswer.{store-answer}
 
 -- a store has written, or it is refused, with a shortfall or without
 kept-or-written : {X : Type 0} {n : ℕ} {l m : List ℕ} → written l ≡ kept n m → X

@@ -3,7 +3,7 @@ ghost use mathlib.Core.Path.{_≡_};
 ghost use mathlib.Core.List.{List};
 ghost use Prim.Native.Nat.{ℕ};
 ghost use Rattle.memory_access.specs.Access.{put-answer};
-ghost use Rattle.memory_store_answer.specs.Answer.{store-answer};
+ghost use Rattle.memory_store_answer.specs.StoreAnswer.{store-answer};
 use memory_access::Put;
 
 // What it wrote is in the memory that it was lent; or the number of a refusal, for a lane that is not below the lane count; or the shortfall of an access

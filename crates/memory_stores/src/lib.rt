@@ -6,7 +6,7 @@ ghost use Prim.Native.Nat.{_+_};
 ghost use Rattle.standard.specs.Memory.{store, store-lane, stored};
 ghost use Rattle.memory_bounds.specs.Bounds.{effective};
 ghost use Rattle.simd.specs.Number.{number};
-ghost use Rattle.memory_store_answer.specs.Answer.{store-answer};
+ghost use Rattle.memory_store_answer.specs.StoreAnswer.{store-answer};
 use memory_access::Effective;
 use memory_access::put8;
 use memory_access::put16;

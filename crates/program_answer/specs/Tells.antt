@@ -2,7 +2,7 @@
 use Prim.Native.Nat.{ℕ}
 use mathlib.Core.List.{List}
 use Rattle.program_digits.specs.Put.{Filled}
-use Rattle.program_answer.specs.Answer.{Answer}
+use Rattle.program_answer.specs.Output.{Answer}
 use Rattle.program_answer.specs.declared.Told.{Told}
 
 pub record Tells (a : Answer) (out err out-after err-after : List ℕ) (r : Told) : Type 0 where

@@ -17,7 +17,7 @@ use Rattle.program_digits.proofs.Puts.{then, no-more, filled}
 use Rattle.program_words.specs.Cut.{newline, pieces}
 use Rattle.program_words.specs.Stops.{Scanned}
 use Rattle.program_words.proofs.Pieces.{first-piece, last-piece, next-piece}
-use Rattle.program_answer.specs.Answer.{output-alone, said-alone}
+use Rattle.program_answer.specs.Output.{output-alone, said-alone}
 use Rattle.program_line.specs.Line.{Line, empty, step, refused, line}
 use Rattle.program_line.specs.Reads.{ReadAs}
 use Rattle.program_line.specs.declared.Read.{Read}

@@ -8,7 +8,7 @@ use lib.ListN.{length, getD, take}
 use Rattle.program_digits.specs.Codes.{codes}
 use Rattle.program_digits.specs.Digits.{decimal}
 use Rattle.program_words.specs.Cut.{newline, pieces}
-use Rattle.program_answer.specs.Answer.{Answer, output-alone, said-alone}
+use Rattle.program_answer.specs.Output.{Answer, output-alone, said-alone}
 use Rattle.program_line.specs.Line.{Line, empty, step, refused, line}
 
 -- The bytes of the steps of a text's lines, up to the first line that stands for none; that line's number, "counted from 1", and why. 0 and 0 where there is no

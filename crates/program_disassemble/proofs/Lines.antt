@@ -15,7 +15,7 @@ use Rattle.program_digits.specs.Digits.{decimal}
 use Rattle.program_digits.specs.Put.{Wrote, Filled}
 use Rattle.program_digits.proofs.Laws.{decimal-length}
 use Rattle.program_digits.proofs.Puts.{then, said-as, filled}
-use Rattle.program_answer.specs.Answer.{output-alone, said-alone}
+use Rattle.program_answer.specs.Output.{output-alone, said-alone}
 use Rattle.program_step.specs.Shown.{shown}
 use Rattle.program_step.proofs.Written.{shown-length}
 use Rattle.program_disassemble.specs.Written.{padded, numbered, lines, disassembled, list-refused, told}

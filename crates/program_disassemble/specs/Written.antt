@@ -7,7 +7,7 @@ use lib.ListN.{length, take, drop, replicate}
 use Rattle.calculator_rules.specs.Definition.{list-refusal}
 use Rattle.program_digits.specs.Codes.{codes}
 use Rattle.program_digits.specs.Digits.{decimal}
-use Rattle.program_answer.specs.Answer.{Answer, output-alone, said-alone}
+use Rattle.program_answer.specs.Output.{Answer, output-alone, said-alone}
 use Rattle.program_step.specs.Shown.{shown}
 
 -- A step on a line, and its number in "a column of comments", which begins behind 64 characters, or behind the step where that is longer.

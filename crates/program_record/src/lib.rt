@@ -2,7 +2,7 @@
 ghost use mathlib.Core.Path.{_≡_};
 ghost use lib.ListN.{length};
 ghost use Rattle.calculator_rules.specs.Definition.{bytes};
-ghost use Rattle.recording_compare.specs.Answer.{answer-of};
+ghost use Rattle.recording_compare.specs.Verdict.{answer-of};
 ghost use Rattle.program_digits.specs.Digits.{hex-bytes};
 ghost use Rattle.program_digits.specs.Put.{Wrote};
 ghost use Rattle.program_recordings.specs.Lines.{replay};

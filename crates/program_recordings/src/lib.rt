@@ -1,8 +1,8 @@
 // What `replay`, `record` and `mend` write beside files: each function puts all lines of an answer at the start of a lent buffer, and says how many bytes they are.
 ghost use mathlib.Core.Path.{_≡_};
-ghost use Rattle.recording_compare.specs.Answer as trace;
-ghost use Rattle.recording_rules.specs.Answer as records;
-ghost use Rattle.recording_mending.specs.Answer.{mending-of};
+ghost use Rattle.recording_compare.specs.Verdict as trace;
+ghost use Rattle.recording_rules.specs.Recorded as records;
+ghost use Rattle.recording_mending.specs.Mended.{mending-of};
 ghost use Rattle.program_digits.specs.Put.{Wrote, Filled};
 ghost use Rattle.program_recordings.specs.Lines.{replay, record-said, bit-line, bit-lines, stop-line, mend-said};
 use program_digits::put;

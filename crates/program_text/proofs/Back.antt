@@ -13,7 +13,7 @@ use Rattle.program_arguments.specs.Arguments.{digit}
 use Rattle.calculator_rules.specs.Definition.{operation, unless, list-refusal}
 use Rattle.program_digits.specs.Codes.{codes}
 use Rattle.program_digits.specs.Digits.{glyph, digits, places, decimal, hex}
-use Rattle.program_answer.specs.Answer.{output-alone}
+use Rattle.program_answer.specs.Output.{output-alone}
 use Rattle.program_words.specs.Cut.{newline, blank, solid, before, onward, comment, statement, pieces, skip, same}
 use Rattle.program_words.proofs.Free.{free, passes, free-append, free-piece}
 use Rattle.program_words.proofs.Pieces.{same-true, is-false}

@@ -2,7 +2,7 @@
 use mathlib.Core.Path.{_≡_, refl, ap}
 use Prim.Native.Nat.{ℕ}
 use native.Mathlib.Omega.{arith}
-use Rattle.recording_rules.specs.Answer.{recorded-of}
+use Rattle.recording_rules.specs.Recorded.{recorded-of}
 use Rattle.recording_rules.specs.declared.Recorded.{Recorded}
 
 pub recordings-coincide : (a b : Recorded) → recorded-of a ≡ recorded-of b → a ≡ b

@@ -5,7 +5,7 @@ ghost use lib.ListN.{length, drop};
 ghost use Rattle.calculator_rules.specs.Definition.{list-refusal};
 ghost use Rattle.recording_packing.specs.Definition.{blocks-for, fits, standing};
 ghost use Rattle.recording_rules.specs.Definition.{records-of, recorded};
-ghost use Rattle.recording_rules.specs.Answer.{recorded-of};
+ghost use Rattle.recording_rules.specs.Recorded.{recorded-of};
 use crate::account::account;
 use calculator_scalar::Scalar;
 use calculator_step::step;

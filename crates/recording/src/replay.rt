@@ -3,7 +3,7 @@ ghost use mathlib.Core.Path.{_≡_};
 ghost use Prim.Native.Nat.{_*_, _≤_};
 ghost use Rattle.calculator_rules.specs.Definition.{start};
 ghost use Rattle.recording_layout.specs.Definition.{blocks};
-ghost use Rattle.recording_compare.specs.Answer.{answer-of};
+ghost use Rattle.recording_compare.specs.Verdict.{answer-of};
 ghost use Rattle.recording_rules.specs.Definition.{replay-from, replay};
 use crate::account::account;
 use calculator_scalar::Scalar;

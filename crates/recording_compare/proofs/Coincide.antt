@@ -2,7 +2,7 @@
 use mathlib.Core.Path.{_≡_, refl, ap}
 use Prim.Native.Nat.{ℕ}
 use native.Mathlib.Omega.{arith}
-use Rattle.recording_compare.specs.Answer.{answer-of}
+use Rattle.recording_compare.specs.Verdict.{answer-of}
 use Rattle.recording_compare.specs.declared.Answer.{Answer}
 
 pub answers-coincide : (a b : Answer) → answer-of a ≡ answer-of b → a ≡ b

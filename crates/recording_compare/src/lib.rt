@@ -4,7 +4,7 @@ ghost use mathlib.Core.Path.{_≡_};
 ghost use lib.ListN.{length, take, drop};
 ghost use Rattle.standard.specs.Lanes.{digits};
 ghost use Rattle.recording_fields.specs.Definition.{trace, differs, compared};
-ghost use Rattle.recording_compare.specs.Answer.{answer-of};
+ghost use Rattle.recording_compare.specs.Verdict.{answer-of};
 use memory_access::Fetched64;
 use memory_bounds::Effective;
 use recording_fields::held;

@@ -2,7 +2,7 @@
 use mathlib.Core.Path.{_≡_, ap}
 use Prim.Native.Nat.{ℕ}
 use native.Mathlib.Omega.{arith}
-use Rattle.recording_layout_judge.specs.Answer.{judged-of}
+use Rattle.recording_layout_judge.specs.Judged.{judged-of}
 use Rattle.recording_layout_judge.specs.declared.Judged.{Judged}
 
 pub judgements-coincide : (a b : Judged) → judged-of a ≡ judged-of b → a ≡ b

@@ -3,7 +3,7 @@ ghost use Prim.Native.Nat.{_+_, _*_, _≤_, _<_};
 ghost use mathlib.Core.Path.{_≡_};
 ghost use lib.ListN.{length};
 ghost use Rattle.recording_layout.specs.Definition.{each-below, blocks, count, record-at-laid, count-laid, block-laid, laid-block, records, judged};
-ghost use Rattle.recording_layout_judge.specs.Answer.{judged-of};
+ghost use Rattle.recording_layout_judge.specs.Judged.{judged-of};
 use recording_layout::LENGTH;
 use recording_layout::all_right;
 use recording_layout::is_whole;

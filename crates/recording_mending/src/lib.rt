@@ -6,7 +6,7 @@ ghost use lib.Dec.{ltb};
 ghost use lib.ListN.{length};
 ghost use Rattle.recording_layout.specs.Definition.{blocks};
 ghost use Rattle.recording_mending_rules.specs.Definition.{flipped, refused, done, mending};
-ghost use Rattle.recording_mending.specs.Answer.{mending-of};
+ghost use Rattle.recording_mending.specs.Mended.{mending-of};
 use recording_layout::LENGTH;
 use recording_layout::is_whole;
 use recording_mending_place::NONE;

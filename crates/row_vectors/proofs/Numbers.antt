@@ -11,7 +11,7 @@ use Rattle.standard.proofs.Loop.{zip-map}
 use Rattle.simd.specs.Number.{number}
 use Rattle.simd.specs.declared.V128.{V128}
 use Rattle.row_halves.proofs.Upto.{Each}
-use Rattle.row_vectors.specs.Answer.{Combined, Mapped}
+use Rattle.row_vectors.specs.Rows.{Combined, Mapped}
 
 -- what the operation g on numbers promises of two vectors and its result
 abbrev pub Does : (ℕ → ℕ → ℕ) → V128 → V128 → V128 → Type 0

@@ -10,7 +10,7 @@ use Rattle.simd.specs.Number.{number}
 use Rattle.simd.specs.declared.V128.{V128}
 use Rattle.simd.proofs.Coincide.{Held, vectors-coincide}
 use Rattle.row_halves.specs.Rows.{after}
-use Rattle.row_vectors.specs.Answer.{Combined, Mapped}
+use Rattle.row_vectors.specs.Rows.{Combined, Mapped}
 use Rattle.row_vectors.proofs.Numbers.{alone}
 
 abbrev HeldAll : List V128 → Type 0

@@ -55,7 +55,7 @@ use denote.Triple.Spec.{Meets, tripleOf}
 use denote.Triple.Clauses.{Clauses, Ended, closing, ensured, lasts}
 use denote.Triple.Walked.{says, Stays, stay-slice, stay-none-slice, walkOf, goes-slice, goes-none-slice, Walks, ends-at, walked, walk-meets}
 use Rattle.simd.specs.declared.V128.{V128}
-use Rattle.row_vectors.specs.Answer.{Combined}
+use Rattle.row_vectors.specs.Rows.{Combined}
 use Rattle.simd.proofs.V128 as T
 use Rattle.simd.proofs.V128.Laws as T′
 use Rattle.row_halves.proofs.Upto.{Upto, long, same, next, full}

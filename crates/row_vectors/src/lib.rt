@@ -2,7 +2,7 @@
 // is a slice of vector structs. The texts of the two functions on two rows are alike, since one proof serves both (proofs/TwoRows.antt).
 ghost use Rattle.standard.specs.Integer.{iadd, ixor, ipopcnt};
 ghost use Rattle.standard.specs.Lanes.{unary, binary};
-ghost use Rattle.row_vectors.specs.Answer.{Combined, Mapped};
+ghost use Rattle.row_vectors.specs.Rows.{Combined, Mapped};
 use simd::V128;
 
 // "12 when the two rows differ in length".

@@ -18,7 +18,7 @@ use Rattle.simd.specs.declared.answer.I32Answer.{I32Answer}
 use Rattle.simd.specs.declared.answer.U32Answer.{U32Answer}
 use Rattle.simd.specs.declared.answer.I64Answer.{I64Answer}
 use Rattle.simd.specs.Number.{number}
-use Rattle.simd.specs.Answer.{vector-answer, i32-answer, u32-answer, i64-answer}
+use Rattle.simd.specs.Answers.{vector-answer, i32-answer, u32-answer, i64-answer}
 
 -- a vector's halves are below 2^64
 pub record Held (v : V128) : Type 0 where

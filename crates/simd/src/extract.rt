@@ -3,7 +3,7 @@ ghost use mathlib.Core.Path.{_≡_};
 ghost use Rattle.standard.specs.Integer.{extend-s};
 ghost use Rattle.standard.specs.Lanes.{extract};
 ghost use Rattle.standard.specs.Refusal.{at-lane};
-ghost use Rattle.simd.specs.Answer.{i32-answer, u32-answer, i64-answer, f32-answer, f64-answer};
+ghost use Rattle.simd.specs.Answers.{i32-answer, u32-answer, i64-answer, f32-answer, f64-answer};
 ghost use Rattle.simd.specs.Number.{number};
 use crate::V128;
 use crate::answer::F32Answer;

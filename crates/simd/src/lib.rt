@@ -26,7 +26,7 @@ ghost use Rattle.lane_float_arithmetic.specs.Choose.{arithmetic-of};
 ghost use Rattle.array_lanewise.specs.Lanewise.{unaries, unaries8, unaries16, unaries32, binaries, binaries16, binaries32, unary-of, binary-of};
 ghost use Rattle.array_lanewise_float.specs.LanewiseFloat.{float-unary-of, float-binary-of};
 ghost use Rattle.simd.specs.Number.{number};
-ghost use Rattle.simd.specs.Answer.{vector-answer};
+ghost use Rattle.simd.specs.Answers.{vector-answer};
 use answer::LANE;
 use answer::VectorAnswer;
 

@@ -2,7 +2,7 @@
 ghost use mathlib.Core.Path.{_≡_};
 ghost use Rattle.standard.specs.Refusal.{at-indices};
 ghost use Rattle.standard.specs.Vector.{swizzle, shuffle};
-ghost use Rattle.simd.specs.Answer.{vector-answer};
+ghost use Rattle.simd.specs.Answers.{vector-answer};
 ghost use Rattle.simd.specs.Number.{number};
 use crate::V128;
 use crate::answer::INDEX;

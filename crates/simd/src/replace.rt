@@ -4,7 +4,7 @@ ghost use Rattle.standard.specs.Integer.{modulo};
 ghost use Rattle.standard.specs.Lanes.{replace};
 ghost use Rattle.standard.specs.Refusal.{at-lane};
 ghost use Rattle.lane_float.specs.Scalar.{f32-bits, f64-bits};
-ghost use Rattle.simd.specs.Answer.{vector-answer};
+ghost use Rattle.simd.specs.Answers.{vector-answer};
 ghost use Rattle.simd.specs.Number.{number};
 use crate::V128;
 use crate::answer::VectorAnswer;

@@ -8,7 +8,7 @@ use lib.ListN.{length}
 use lib.Seq.{length-take-le}
 use Rattle.recording_mending_rules.specs.Definition as definition
 use Rattle.recording_mending_rules.specs.Definition.{mending}
-use Rattle.recording_mending.specs.Answer.{mending-of}
+use Rattle.recording_mending.specs.Mended.{mending-of}
 use Rattle.recording_mending.specs.declared.Mending.{Mending}
 use Rattle.recording_mending_rules.proofs.Files.{in-room}
 use Rattle.mend.proofs.write_mended.Statement.{statement}

@@ -2,7 +2,7 @@
 use borrow.Author.Needs.{needs}
 use native.Mathlib.Omega.{arith}
 use borrow.Author.Tests.{eq-eqb, ne-eqb}
-use Rattle.recording_mending.specs.Answer.{mending-of}
+use Rattle.recording_mending.specs.Mended.{mending-of}
 use Rattle.program_digits.specs.Codes.{codes}
 use Rattle.program_digits.proofs.Puts.{then, filled}
 use Rattle.program_recordings.specs.Lines.{mend-said}

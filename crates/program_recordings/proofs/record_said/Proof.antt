@@ -2,7 +2,7 @@
 use borrow.Author.Needs.{needs}
 use native.Mathlib.Omega.{arith}
 use mathlib.Core.Path.{refl}
-use Rattle.recording_rules.specs.Answer.{recorded-of}
+use Rattle.recording_rules.specs.Recorded.{recorded-of}
 use Rattle.program_digits.specs.Codes.{codes}
 use Rattle.program_digits.proofs.Puts.{filled}
 use Rattle.program_recordings.specs.Lines.{record-said}

@@ -1,6 +1,6 @@
 -- `program_recordings::replay` meets its contract. Assumes nothing.
 use borrow.Author.Needs.{needs}
-use Rattle.recording_compare.specs.Answer.{answer-of}
+use Rattle.recording_compare.specs.Verdict.{answer-of}
 use Rattle.program_digits.specs.Codes.{codes}
 use Rattle.program_digits.proofs.Puts.{filled}
 use Rattle.program_recordings.specs.Lines.{replay}

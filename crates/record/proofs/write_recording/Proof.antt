@@ -9,7 +9,7 @@ use lib.Seq.{length-take-le}
 use Rattle.recording_rules.specs.Definition as definition
 use Rattle.recording_rules.specs.Definition.{recorded}
 use Rattle.recording_rules.proofs.Theorems.{in-room}
-use Rattle.recording_rules.specs.Answer.{recorded-of}
+use Rattle.recording_rules.specs.Recorded.{recorded-of}
 use Rattle.recording_rules.specs.declared.Recorded.{Recorded}
 use Rattle.record.proofs.write_recording.Statement.{statement}
 use Rattle.record.proofs.write_recording.Tie as tie

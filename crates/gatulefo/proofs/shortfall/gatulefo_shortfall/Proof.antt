@@ -3,7 +3,7 @@ use borrow.Author.Needs.{needs}
 use Prim.Native.Nat.{ℕ}
 use mathlib.Core.Path.{ap}
 use Rattle.standard.specs.Memory.{Accessed}
-use Rattle.link_answers.specs.Answer.{access-numbers}
+use Rattle.link_answers.specs.Handed.{access-numbers}
 use Rattle.gatulefo.proofs.shortfall.gatulefo_shortfall.Statement.{statement}
 use Rattle.gatulefo.proofs.shortfall.gatulefo_shortfall.Tie as tie
 

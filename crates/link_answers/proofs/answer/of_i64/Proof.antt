@@ -4,7 +4,7 @@ use Prim.Native.Nat.{ℕ}
 use mathlib.Core.Path.{_≡_, refl, ap}
 use mir.Syntax.{w64}
 use mir.Val.{toZ, ofZ}
-use Rattle.link_answers.specs.Answer.{pair}
+use Rattle.link_answers.specs.Handed.{pair}
 use Rattle.link_answers.proofs.answer.of_i64.Statement.{statement}
 use Rattle.link_answers.proofs.answer.of_i64.Tie as tie
 

@@ -1,7 +1,7 @@
 -- `link_answers::answer::of_load` meets its contract: each case by itself. Assumes nothing.
 use borrow.Author.Needs.{needs}
 use mathlib.Core.Path.{refl}
-use Rattle.link_answers.specs.Answer.{access-numbers}
+use Rattle.link_answers.specs.Handed.{access-numbers}
 use Rattle.link_answers.proofs.answer.of_load.Statement.{statement}
 use Rattle.link_answers.proofs.answer.of_load.Tie as tie
 

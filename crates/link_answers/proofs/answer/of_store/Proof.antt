@@ -1,7 +1,7 @@
 -- `link_answers::answer::of_store` meets its contract: each case by itself. Assumes nothing.
 use borrow.Author.Needs.{needs}
 use mathlib.Core.Path.{refl}
-use Rattle.link_answers.specs.Answer.{store-numbers}
+use Rattle.link_answers.specs.Handed.{store-numbers}
 use Rattle.link_answers.proofs.answer.of_store.Statement.{statement}
 use Rattle.link_answers.proofs.answer.of_store.Tie as tie
 

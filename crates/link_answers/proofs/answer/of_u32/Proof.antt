@@ -2,7 +2,7 @@
 use borrow.Author.Needs.{needs}
 use mathlib.Core.Path.{refl, ap}
 use Prim.Native.Nat.{ℕ}
-use Rattle.link_answers.specs.Answer.{pair}
+use Rattle.link_answers.specs.Handed.{pair}
 use Rattle.link_answers.proofs.answer.of_u32.Statement.{statement}
 use Rattle.link_answers.proofs.answer.of_u32.Tie as tie
 

@@ -1,7 +1,7 @@
 -- `link_answers::answer::of_vector` meets its contract: each case by itself. Assumes nothing.
 use borrow.Author.Needs.{needs}
 use mathlib.Core.Path.{refl}
-use Rattle.link_answers.specs.Answer.{pair}
+use Rattle.link_answers.specs.Handed.{pair}
 use Rattle.link_answers.proofs.answer.of_vector.Statement.{statement}
 use Rattle.link_answers.proofs.answer.of_vector.Tie as tie
 

@@ -1,7 +1,7 @@
 -- `link_answers::answer::vector_or_zero` meets its contract: each case by itself. Assumes nothing.
 use borrow.Author.Needs.{needs}
 use mathlib.Core.Path.{refl}
-use Rattle.link_answers.specs.Answer.{or-zero}
+use Rattle.link_answers.specs.Handed.{or-zero}
 use Rattle.link_answers.proofs.answer.vector_or_zero.Statement.{statement}
 use Rattle.link_answers.proofs.answer.vector_or_zero.Tie as tie
 

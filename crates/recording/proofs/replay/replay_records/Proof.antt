@@ -14,7 +14,7 @@ use Rattle.calculator_rules.specs.Definition.{start}
 use Rattle.calculator_rules.proofs.Shapes.{nothing}
 use Rattle.calculator_state.specs.State.{held}
 use Rattle.recording_fields.specs.Definition.{agrees, compared}
-use Rattle.recording_compare.specs.Answer.{answer-of}
+use Rattle.recording_compare.specs.Verdict.{answer-of}
 use Rattle.recording_compare.specs.declared.Answer.{Answer}
 use Rattle.recording_compare.proofs.Answer.{the-type}
 use Rattle.recording_layout.specs.Definition.{record-at}
