@@ -1,11 +1,8 @@
--- What a call asks of a function that requires nothing; and what a shape asks is what its instruction asks. Assumes nothing.
+-- What a shape asks is what its instruction asks. Assumes nothing.
 use mathlib.Core.Path.{_≡_, refl}
 use Rattle.standard.specs.Instruction.{Kind, i32, i64, f32, f64, Instruction, none, memory, const, shuffled, vector₁, vector₂, vector₃, shifted, tested, splatted, extracted, replaced}
 use Rattle.calculator_rules.specs.Definition.{profile}
 use Rattle.calculator_rules.specs.Shape.{the-kind, as-kind, shape, profile-of}
-
-pub nothing : {C K : Type 0} → C → K → Unit {0}
-nothing c k = tt
 
 kind-back : (k : Kind) → the-kind (as-kind k) ≡ k
 kind-back i32 = refl

@@ -1,5 +1,6 @@
 pub mod Access
 pub mod Bitwise
+pub mod Calls
 pub mod Cases
 pub mod Digits
 pub mod Halves

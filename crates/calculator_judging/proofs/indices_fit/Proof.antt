@@ -8,7 +8,7 @@ use borrow.Author.Tests.{le-leb, lt-leb}
 use Rattle.standard.specs.Refusal.{legal}
 use Rattle.calculator_rules.specs.Definition.{bytes, indices}
 use Rattle.calculator_rules.proofs.Judged.{turn}
-use Rattle.calculator_rules.proofs.Shapes.{nothing}
+use Rattle.standard.proofs.Calls.{nothing}
 use Rattle.calculator_judging.proofs.indices_fit.Statement.{statement}
 use Rattle.calculator_judging.proofs.indices_fit.Tie as tie
 

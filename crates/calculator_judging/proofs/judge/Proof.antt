@@ -2,7 +2,7 @@
 use mathlib.Core.Path.{refl}
 use Rattle.calculator_rules.specs.Definition.{refusal}
 use Rattle.calculator_rules.proofs.Judged.{judged, register, place, unused}
-use Rattle.calculator_rules.proofs.Shapes.{nothing}
+use Rattle.standard.proofs.Calls.{nothing}
 use borrow.Author.Needs.{needs}
 use Rattle.calculator_judging.proofs.judge.Statement.{statement}
 use Rattle.calculator_judging.proofs.judge.Tie as tie

@@ -1,6 +1,6 @@
 -- `calculator_judging::kind` meets its contract: the test, either way. Assumes nothing.
 use borrow.Author.Tests.{eq-eqb, ne-eqb}
-use Rattle.calculator_rules.proofs.Shapes.{nothing}
+use Rattle.standard.proofs.Calls.{nothing}
 use Rattle.calculator_judging.proofs.kind.Statement.{statement}
 use Rattle.calculator_judging.proofs.kind.Tie as tie
 

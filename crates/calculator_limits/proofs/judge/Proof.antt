@@ -1,5 +1,5 @@
 -- `calculator_limits::judge` meets its contract: the tests one after the other, as the definition has them. Assumes nothing.
-use Rattle.calculator_rules.proofs.Shapes.{nothing}
+use Rattle.standard.proofs.Calls.{nothing}
 use Rattle.calculator_limits.proofs.judge.Statement.{statement}
 use Rattle.calculator_limits.proofs.judge.Tie as tie
 

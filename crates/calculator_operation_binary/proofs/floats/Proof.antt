@@ -1,7 +1,7 @@
 -- `calculator_operation_binary::floats` meets its contract: each arm by its method's promise, at the number that led there. Assumes nothing.
 use Rattle.standard.specs.Instruction.{table, instruction}
 use Rattle.calculator_families.specs.Family.{families}
-use Rattle.calculator_families.proofs.Calls.{nothing}
+use Rattle.standard.proofs.Calls.{nothing}
 use Rattle.calculator_families.proofs.Others.{between}
 use Rattle.calculator_operation_binary.proofs.floats.Statement.{statement}
 use Rattle.calculator_operation_binary.proofs.floats.Tie as tie

@@ -1,6 +1,6 @@
 -- `calculator_packed_binary::binary` meets its contract: each arm by its method's promise, at the number that led there. Assumes nothing.
 use Rattle.standard.specs.Instruction.{table, instruction}
-use Rattle.calculator_families.proofs.Calls.{nothing}
+use Rattle.standard.proofs.Calls.{nothing}
 use Rattle.calculator_packed_binary.proofs.binary.Statement.{statement}
 use Rattle.calculator_packed_binary.proofs.binary.Tie as tie
 

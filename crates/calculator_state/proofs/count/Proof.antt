@@ -7,7 +7,7 @@ use mir.Val.{toZ, ofZ}
 use types.Run.{OneOf, miss}
 use denote.Enum.Declared.{tagOf}
 use borrow.Author.Needs.{needs}
-use Rattle.calculator_rules.proofs.Shapes.{nothing}
+use Rattle.standard.proofs.Calls.{nothing}
 use Rattle.calculator_scalar.specs.Scalar.{kind-of, bits-of}
 use Rattle.calculator_scalar.specs.declared.Scalar.{Scalar}
 use Rattle.calculator_scalar.proofs.Scalar.{the-type}

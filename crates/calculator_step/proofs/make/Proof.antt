@@ -8,7 +8,7 @@ use Rattle.standard.specs.Refusal.{at-indices}
 use Rattle.simd.specs.Number.{number}
 use Rattle.calculator_families.specs.Family.{given-or}
 use borrow.Author.Needs.{needs}
-use Rattle.calculator_rules.proofs.Shapes.{nothing}
+use Rattle.standard.proofs.Calls.{nothing}
 use Rattle.calculator_step.proofs.make.Statement.{statement}
 use Rattle.calculator_step.proofs.make.Tie as tie
 

@@ -2,7 +2,7 @@
 use borrow.Author.Needs.{needs}
 use mathlib.Core.Path.{refl, ap, _∙_}
 use Rattle.standard.specs.Instruction.{instruction}
-use Rattle.calculator_rules.proofs.Shapes.{nothing}
+use Rattle.standard.proofs.Calls.{nothing}
 use Rattle.calculator_scalar.specs.Scalar.{scalar-of}
 use Rattle.calculator_state.specs.State.{held}
 use Rattle.calculator_step.proofs.Performed.{another-scalar, another-register, stored, gives}

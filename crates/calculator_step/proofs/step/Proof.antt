@@ -1,7 +1,7 @@
 -- `calculator_step::step` meets its contract: what the judge says, and where it is no refusal what is done. Assumes nothing.
 use mathlib.Core.Path.{_≡_, refl, _∙_}
 use borrow.Author.Tests.{ne-eqb}
-use Rattle.calculator_rules.proofs.Shapes.{nothing}
+use Rattle.standard.proofs.Calls.{nothing}
 use Rattle.calculator_state.specs.State.{held}
 use Rattle.calculator_step.specs.Done.{numbers}
 use Rattle.calculator_step.proofs.Performed.{passes, stops, tells}

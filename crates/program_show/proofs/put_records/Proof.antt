@@ -7,7 +7,7 @@ use Prim.Native.Nat.{ℕ, _+_, _-_, _≤_}
 use native.Mathlib.Omega.{arith}
 use lib.ListN.{length, take}
 use Rattle.calculator_rules.specs.Definition.{start}
-use Rattle.calculator_rules.proofs.Shapes.{nothing}
+use Rattle.standard.proofs.Calls.{nothing}
 use Rattle.calculator_state.specs.State.{held}
 use Rattle.recording_layout.specs.Definition.{record-at}
 use Rattle.program_digits.proofs.Puts.{then, no-more, said-as, Completes}

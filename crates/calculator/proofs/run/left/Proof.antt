@@ -1,5 +1,5 @@
 -- `calculator::run::left` meets its contract: its registers are those of the words. Assumes nothing.
-use Rattle.calculator_rules.proofs.Shapes.{nothing}
+use Rattle.standard.proofs.Calls.{nothing}
 use Rattle.calculator.proofs.run.left.Statement.{statement}
 use Rattle.calculator.proofs.run.left.Tie as tie
 

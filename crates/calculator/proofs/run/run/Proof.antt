@@ -5,7 +5,7 @@ use lib.ListN.{length}
 use borrow.Author.Tests.{ne-eqb}
 use Rattle.calculator_rules.specs.Definition.{run}
 use Rattle.calculator_rules.proofs.Pauses.{fits}
-use Rattle.calculator_rules.proofs.Shapes.{nothing}
+use Rattle.standard.proofs.Calls.{nothing}
 use Rattle.calculator.proofs.run.run.Statement.{statement}
 use Rattle.calculator.proofs.run.run.Tie as tie
 

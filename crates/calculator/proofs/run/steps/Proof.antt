@@ -7,7 +7,7 @@ use lib.ListN.{length, take, drop}
 use borrow.Author.Tests.{ne-eqb}
 use Rattle.standard.specs.Refusal.{given, refused}
 use Rattle.calculator_rules.specs.Definition.{step, steps}
-use Rattle.calculator_rules.proofs.Shapes.{nothing}
+use Rattle.standard.proofs.Calls.{nothing}
 use Rattle.calculator_state.specs.State.{held}
 use Rattle.calculator.proofs.Runs.{rest, starts, turn, stop, stops-here}
 use Rattle.calculator.proofs.run.steps.Statement.{statement}

@@ -2,7 +2,7 @@
 use mathlib.Core.Path.{refl, ap, _∙_}
 use Rattle.standard.specs.Instruction.{i32, i64, f32, f64, table, instruction}
 use Rattle.calculator_families.specs.Family.{families, of-kind}
-use Rattle.calculator_families.proofs.Calls.{nothing}
+use Rattle.standard.proofs.Calls.{nothing}
 use Rattle.calculator_families.proofs.Others.{any}
 use Rattle.calculator_operation.proofs.extract.extract.Statement.{statement}
 use Rattle.calculator_operation.proofs.extract.extract.Tie as tie

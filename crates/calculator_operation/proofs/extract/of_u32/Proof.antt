@@ -1,5 +1,5 @@
 -- `calculator_operation::extract::of_u32` meets its contract: the value, or i32 0. Assumes nothing.
-use Rattle.calculator_families.proofs.Calls.{nothing}
+use Rattle.standard.proofs.Calls.{nothing}
 use borrow.Author.Needs.{needs}
 use Rattle.calculator_operation.proofs.extract.of_u32.Statement.{statement}
 use Rattle.calculator_operation.proofs.extract.of_u32.Tie as tie

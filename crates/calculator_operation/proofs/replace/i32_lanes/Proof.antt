@@ -5,7 +5,7 @@ use mir.Facts.{toZ-ofZ}
 use Rattle.standard.specs.Instruction.{i32, table, instruction}
 use Rattle.lane_integer.proofs.Magnitude.{kept}
 use Rattle.calculator_families.specs.Family.{families}
-use Rattle.calculator_families.proofs.Calls.{nothing}
+use Rattle.standard.proofs.Calls.{nothing}
 use Rattle.calculator_families.proofs.Others.{any}
 use Rattle.calculator_operation.proofs.replace.i32_lanes.Statement.{statement}
 use Rattle.calculator_operation.proofs.replace.i32_lanes.Tie as tie

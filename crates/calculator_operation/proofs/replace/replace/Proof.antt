@@ -5,7 +5,7 @@ use mir.Val.{toZ, ofZ}
 use borrow.Author.Needs.{needs}
 use Rattle.standard.specs.Instruction.{i64, f32, f64, table, instruction}
 use Rattle.calculator_families.specs.Family.{families}
-use Rattle.calculator_families.proofs.Calls.{nothing}
+use Rattle.standard.proofs.Calls.{nothing}
 use Rattle.calculator_families.proofs.Others.{any}
 use Rattle.calculator_operation.proofs.replace.replace.Statement.{statement}
 use Rattle.calculator_operation.proofs.replace.replace.Tie as tie

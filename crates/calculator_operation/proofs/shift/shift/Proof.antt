@@ -2,7 +2,7 @@
 use mathlib.Core.Path.{refl}
 use Rattle.standard.specs.Instruction.{table, instruction}
 use Rattle.calculator_families.specs.Family.{families}
-use Rattle.calculator_families.proofs.Calls.{nothing}
+use Rattle.standard.proofs.Calls.{nothing}
 use Rattle.calculator_families.proofs.Others.{any}
 use Rattle.calculator_operation.proofs.shift.shift.Statement.{statement}
 use Rattle.calculator_operation.proofs.shift.shift.Tie as tie

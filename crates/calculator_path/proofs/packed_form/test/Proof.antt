@@ -1,7 +1,7 @@
 -- `calculator_path::packed_form::test` meets its contract: each arm by its method's promise, at the number that led there. Assumes nothing.
 use mathlib.Core.Path.{_∙_}
 use Rattle.standard.specs.Instruction.{table, instruction}
-use Rattle.calculator_families.proofs.Calls.{nothing}
+use Rattle.standard.proofs.Calls.{nothing}
 use Rattle.calculator_path.proofs.packed_form.test.Statement.{statement}
 use Rattle.calculator_path.proofs.packed_form.test.Tie as tie
 

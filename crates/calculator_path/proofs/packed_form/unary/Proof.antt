@@ -1,6 +1,6 @@
 -- `calculator_path::packed_form::unary` meets its contract: each arm by its method's promise, at the number that led there. Assumes nothing.
 use Rattle.standard.specs.Instruction.{table, instruction}
-use Rattle.calculator_families.proofs.Calls.{nothing}
+use Rattle.standard.proofs.Calls.{nothing}
 use Rattle.calculator_path.proofs.packed_form.unary.Statement.{statement}
 use Rattle.calculator_path.proofs.packed_form.unary.Tie as tie
 

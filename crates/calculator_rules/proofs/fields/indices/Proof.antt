@@ -7,7 +7,7 @@ use lib.ListN.{length, take, length-set}
 use lib.Seq.{take-all}
 use Rattle.calculator_rules.specs.Definition.{bytes}
 use Rattle.calculator_rules.proofs.Gathered.{gathered}
-use Rattle.calculator_rules.proofs.Shapes.{nothing}
+use Rattle.standard.proofs.Calls.{nothing}
 use Rattle.calculator_rules.proofs.fields.indices.Statement.{statement}
 use Rattle.calculator_rules.proofs.fields.indices.Tie as tie
 

@@ -3,7 +3,7 @@ use mathlib.Core.Path.{_≡_}
 use mir.Syntax.{w32, w64}
 use mir.Val.{toZ, ofZ}
 use borrow.Author.Needs.{needs}
-use Rattle.calculator_families.proofs.Calls.{nothing}
+use Rattle.standard.proofs.Calls.{nothing}
 use Rattle.calculator_scalar.proofs.Scalar.bits.Statement.{statement}
 use Rattle.calculator_scalar.proofs.Scalar.bits.Tie as tie
 

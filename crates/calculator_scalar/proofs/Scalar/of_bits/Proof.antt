@@ -5,7 +5,7 @@ use mir.Val.{Fits}
 use Rattle.standard.specs.Integer.{signed, modulo}
 use Rattle.lane_integer.proofs.Magnitude.{kept}
 use Rattle.lane_integer.proofs.Signed.{modulo-signed}
-use Rattle.calculator_families.proofs.Calls.{nothing}
+use Rattle.standard.proofs.Calls.{nothing}
 use borrow.Author.Needs.{needs}
 use Rattle.calculator_scalar.proofs.Scalar.of_bits.Statement.{statement}
 use Rattle.calculator_scalar.proofs.Scalar.of_bits.Tie as tie

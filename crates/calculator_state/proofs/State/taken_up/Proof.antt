@@ -1,6 +1,6 @@
 -- `calculator_state::State::taken_up` meets its contract: the test of the place, either way. Assumes nothing.
 use borrow.Author.Tests.{ne-eqb}
-use Rattle.calculator_rules.proofs.Shapes.{nothing}
+use Rattle.standard.proofs.Calls.{nothing}
 use Rattle.calculator_state.proofs.State.taken_up.Statement.{statement}
 use Rattle.calculator_state.proofs.State.taken_up.Tie as tie
 

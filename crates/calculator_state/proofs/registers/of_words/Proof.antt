@@ -6,7 +6,7 @@ use native.Mathlib.Omega.{arith}
 use lib.ListN.{length, getD, set, take, length-set}
 use lib.Seq.{take-all}
 use Rattle.simd.specs.Number.{number}
-use Rattle.calculator_rules.proofs.Shapes.{nothing}
+use Rattle.standard.proofs.Calls.{nothing}
 use Rattle.calculator_state.specs.State.{vectors}
 use Rattle.calculator_state.proofs.Words.{copied, half, map-set}
 use Rattle.calculator_state.proofs.registers.of_words.Statement.{statement}

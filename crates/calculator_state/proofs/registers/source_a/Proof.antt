@@ -1,5 +1,5 @@
 -- `calculator_state::registers::source_a` meets its contract: the register that the byte names. Assumes nothing.
-use Rattle.calculator_rules.proofs.Shapes.{nothing}
+use Rattle.standard.proofs.Calls.{nothing}
 use Rattle.calculator_state.proofs.registers.source_a.Statement.{statement}
 use Rattle.calculator_state.proofs.registers.source_a.Tie as tie
 

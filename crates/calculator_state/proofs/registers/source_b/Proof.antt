@@ -1,5 +1,5 @@
 -- `calculator_state::registers::source_b` meets its contract: the register that the byte names. Assumes nothing.
-use Rattle.calculator_rules.proofs.Shapes.{nothing}
+use Rattle.standard.proofs.Calls.{nothing}
 use Rattle.calculator_state.proofs.registers.source_b.Statement.{statement}
 use Rattle.calculator_state.proofs.registers.source_b.Tie as tie
 

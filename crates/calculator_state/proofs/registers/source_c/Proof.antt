@@ -1,5 +1,5 @@
 -- `calculator_state::registers::source_c` meets its contract: the register that the byte names. Assumes nothing.
-use Rattle.calculator_rules.proofs.Shapes.{nothing}
+use Rattle.standard.proofs.Calls.{nothing}
 use Rattle.calculator_state.proofs.registers.source_c.Statement.{statement}
 use Rattle.calculator_state.proofs.registers.source_c.Tie as tie
 

@@ -6,7 +6,7 @@ use native.Mathlib.Omega.{arith}
 use lib.ListN.{length, getD, set, take, length-set, length-map, List·getD-map}
 use lib.Seq.{take-all}
 use Rattle.simd.specs.Number.{number}
-use Rattle.calculator_rules.proofs.Shapes.{nothing}
+use Rattle.standard.proofs.Calls.{nothing}
 use Rattle.calculator_state.specs.State.{vectors}
 use Rattle.calculator_state.proofs.Words.{copied}
 use Rattle.calculator_state.proofs.registers.words.Statement.{statement}

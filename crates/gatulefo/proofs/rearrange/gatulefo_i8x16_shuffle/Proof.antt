@@ -1,6 +1,6 @@
 -- `gatulefo::rearrange::gatulefo_i8x16_shuffle` meets its contract: the answer of `i8x16_shuffle` as C is handed it. Assumes nothing.
 use mathlib.Core.Path.{ap, _∙_}
-use Rattle.calculator_rules.proofs.Shapes.{nothing}
+use Rattle.standard.proofs.Calls.{nothing}
 use Rattle.link_answers.specs.Handed.{pair}
 use Rattle.gatulefo.proofs.rearrange.gatulefo_i8x16_shuffle.Statement.{statement}
 use Rattle.gatulefo.proofs.rearrange.gatulefo_i8x16_shuffle.Tie as tie

@@ -5,7 +5,7 @@ use mathlib.Core.List.{List}
 use Rattle.standard.specs.Refusal.{at-indices}
 use Rattle.standard.specs.Vector.{shuffle}
 use Rattle.simd.specs.Number.{number}
-use Rattle.calculator_rules.proofs.Shapes.{nothing}
+use Rattle.standard.proofs.Calls.{nothing}
 use Rattle.link_answers.specs.Handed.{or-zero}
 use Rattle.gatulefo.proofs.rearrange.gatulefo_value_i8x16_shuffle.Statement.{statement}
 use Rattle.gatulefo.proofs.rearrange.gatulefo_value_i8x16_shuffle.Tie as tie

@@ -1,5 +1,5 @@
 -- `gatulefo::scan::gatulefo_scan_columns` meets its contract, which is that of `link_scan::columns`. Assumes nothing.
-use Rattle.calculator_rules.proofs.Shapes.{nothing}
+use Rattle.standard.proofs.Calls.{nothing}
 use Rattle.gatulefo.proofs.scan.gatulefo_scan_columns.Statement.{statement}
 use Rattle.gatulefo.proofs.scan.gatulefo_scan_columns.Tie as tie
 

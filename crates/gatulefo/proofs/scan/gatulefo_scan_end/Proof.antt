@@ -1,5 +1,5 @@
 -- `gatulefo::scan::gatulefo_scan_end` meets its contract, which is that of `link_scan::end`. Assumes nothing.
-use Rattle.calculator_rules.proofs.Shapes.{nothing}
+use Rattle.standard.proofs.Calls.{nothing}
 use Rattle.gatulefo.proofs.scan.gatulefo_scan_end.Statement.{statement}
 use Rattle.gatulefo.proofs.scan.gatulefo_scan_end.Tie as tie
 

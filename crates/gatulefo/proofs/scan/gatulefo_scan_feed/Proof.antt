@@ -1,6 +1,6 @@
 -- `gatulefo::scan::gatulefo_scan_feed` meets its contract, which is that of `link_scan::feed`. Assumes nothing.
 use borrow.Author.Needs.{needs}
-use Rattle.calculator_rules.proofs.Shapes.{nothing}
+use Rattle.standard.proofs.Calls.{nothing}
 use Rattle.gatulefo.proofs.scan.gatulefo_scan_feed.Statement.{statement}
 use Rattle.gatulefo.proofs.scan.gatulefo_scan_feed.Tie as tie
 

@@ -1,5 +1,5 @@
 -- `gatulefo::scan::gatulefo_scan_next` meets its contract, which is that of `link_scan::next`. Assumes nothing.
-use Rattle.calculator_rules.proofs.Shapes.{nothing}
+use Rattle.standard.proofs.Calls.{nothing}
 use Rattle.gatulefo.proofs.scan.gatulefo_scan_next.Statement.{statement}
 use Rattle.gatulefo.proofs.scan.gatulefo_scan_next.Tie as tie
 

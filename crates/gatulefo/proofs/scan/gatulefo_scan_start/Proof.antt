@@ -1,5 +1,5 @@
 -- `gatulefo::scan::gatulefo_scan_start` meets its contract, which is that of `link_scan::start`. Assumes nothing.
-use Rattle.calculator_rules.proofs.Shapes.{nothing}
+use Rattle.standard.proofs.Calls.{nothing}
 use Rattle.gatulefo.proofs.scan.gatulefo_scan_start.Statement.{statement}
 use Rattle.gatulefo.proofs.scan.gatulefo_scan_start.Tie as tie
 

@@ -1,7 +1,7 @@
 -- `recording::account::account` meets its contract. Assumes nothing.
 use denote.Ref.{now}
 use mathlib.Core.Path.{_≡_, ap, _∙_}
-use Rattle.calculator_rules.proofs.Shapes.{nothing}
+use Rattle.standard.proofs.Calls.{nothing}
 use Rattle.calculator_state.specs.State.{held}
 use Rattle.recording_rules.specs.Definition.{kind-byte}
 use Rattle.recording_rules.proofs.Accounts.{traced, goes-on}

@@ -5,7 +5,7 @@ use Prim.Native.Nat.{_+_, _-_, _*_, _/_, _≤_}
 use native.Mathlib.Nat.{sub-zero}
 use native.Mathlib.Omega.{arith}
 use lib.ListN.{length, drop}
-use Rattle.calculator_rules.proofs.Shapes.{nothing}
+use Rattle.standard.proofs.Calls.{nothing}
 use Rattle.calculator_state.specs.State.{held}
 use Rattle.recording_rules.specs.Definition.{records-from, records-of}
 use Rattle.recording_rules.proofs.Accounts.{count-more, count-last, count-end}

@@ -6,7 +6,7 @@ use Prim.Native.Nat.{ℕ, _*_}
 use native.Mathlib.Omega.{arith}
 use lib.ListN.{length}
 use borrow.Author.Needs.{needs}
-use Rattle.calculator_rules.proofs.Shapes.{nothing}
+use Rattle.standard.proofs.Calls.{nothing}
 use Rattle.recording_packing.specs.Definition.{fits}
 use Rattle.recording_packing.proofs.Blocks.{fitting}
 use Rattle.recording_rules.proofs.Theorems.{whole, room-for-all}

@@ -8,7 +8,7 @@ use lib.ListN.{length}
 use borrow.Author.Needs.{needs}
 use borrow.Author.Tests.{not-true, not-false}
 use Rattle.calculator_rules.specs.Definition.{list-refusal}
-use Rattle.calculator_rules.proofs.Shapes.{nothing}
+use Rattle.standard.proofs.Calls.{nothing}
 use Rattle.recording_packing.specs.Definition.{fits, blocks-for}
 use Rattle.recording_packing.proofs.Blocks.{fitting}
 use Rattle.recording_rules.specs.Definition.{records-of, wrote}

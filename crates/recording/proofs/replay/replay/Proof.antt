@@ -2,7 +2,7 @@
 use denote.Ref.{now}
 use mathlib.Core.Path.{sym, ap, _∙_}
 use borrow.Author.Needs.{needs}
-use Rattle.calculator_rules.proofs.Shapes.{nothing}
+use Rattle.standard.proofs.Calls.{nothing}
 use Rattle.recording_layout.specs.Definition as layout
 use Rattle.recording_layout.proofs.Files.{counted}
 use Rattle.recording_rules.specs.Definition.{replay-judged, replay}

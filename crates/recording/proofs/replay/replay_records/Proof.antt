@@ -11,7 +11,7 @@ use borrow.Author.Needs.{needs}
 use lib.ListN.{length-take, length-drop}
 use lib.Seq.{length-take-le}
 use Rattle.calculator_rules.specs.Definition.{start}
-use Rattle.calculator_rules.proofs.Shapes.{nothing}
+use Rattle.standard.proofs.Calls.{nothing}
 use Rattle.calculator_state.specs.State.{held}
 use Rattle.recording_fields.specs.Definition.{agrees, compared}
 use Rattle.recording_compare.specs.Verdict.{answer-of}
