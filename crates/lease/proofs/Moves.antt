@@ -7,7 +7,7 @@ use lib.ListN.{length}
 use Rattle.calculator_rules.specs.Definition as definition
 use Rattle.calculator_rules.specs.Definition.{run}
 use Rattle.calculator_rules.proofs.Pauses.{At, moves-on, never-above}
-use Rattle.lease.proofs.Calls.{few-steps}
+use Rattle.lease.proofs.Leasing.{few-steps}
 use Rattle.calculator_state.specs.State.{machine}
 use Rattle.calculator_limits.specs.Outcome.{outcome-of}
 use Rattle.calculator.specs.Run.{ending-of}

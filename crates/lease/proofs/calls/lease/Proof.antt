@@ -2,7 +2,7 @@
 use borrow.Author.Needs.{needs}
 use Rattle.program_digits.proofs.Puts.{filled}
 use Rattle.lease.specs.Lease.{lease-text}
-use Rattle.lease.proofs.Calls.{lease-within}
+use Rattle.lease.proofs.Leasing.{lease-within}
 use Rattle.lease.proofs.calls.lease.Statement.{statement}
 use Rattle.lease.proofs.calls.lease.Tie as tie
 

@@ -11,7 +11,7 @@ use Rattle.calculator_state.specs.State.{machine}
 use Rattle.lease.proofs.Moves.{few, moved, below}
 use Rattle.program_digits.proofs.Puts.{then, said-as, Completes}
 use Rattle.lease.specs.Lease.{calls}
-use Rattle.lease.proofs.Calls.{ended-call, stopped-call, only-call, next-call}
+use Rattle.lease.proofs.Leasing.{ended-call, stopped-call, only-call, next-call}
 use Rattle.lease.proofs.calls.put_calls.Statement.{statement}
 use Rattle.lease.proofs.calls.put_calls.Tie as tie
 
