@@ -1307,9 +1307,9 @@ uint8_t gatulefo_row_v128_xor(uint64_t *first, size_t first_length, const uint64
  * now (first .exit) ≡ after r (halves (map (unary 8 (ipopcnt 8)) (vectors (now (first .entry))))) (now (first .entry)) */
 uint8_t gatulefo_row_i8x16_popcnt(uint64_t *first, size_t first_length);
 
-/* Captures of any length (document 02, order 5, every position): where a marker stands and stands again one frame later, in order, each once, from pieces of any size.
- * The caller keeps the state from one call to the next and lends a window of more than (length + 38) / 8 bytes, 8,197 for any length, and a table of columns. Ask
- * for meetings until there is none before the next piece is fed: then some bytes of each piece are taken. */
+/* Captures of any length (document 02, order 5, every position): where a marker stands and stands again one frame later, in order, each once, from pieces of any
+ * size. The caller keeps the state from one call to the next and lends a window of more than (length + 38) / 8 bytes, 8,197 for any length, and a table of
+ * columns. Ask for meetings until there is none before the next piece is fed: then some bytes of each piece are taken. */
 
 /* The columns of a marker and a tolerance, made once for a scan.
  * Columns marker tolerance (now (table .exit)) */
@@ -1327,8 +1327,8 @@ gatulefo_fed_state gatulefo_scan_feed(uint8_t *window, size_t window_length, gat
  * ((X : List ℕ) → Stands length X (now (window .entry)) (scan-in state) → Columns marker tolerance (now (table .entry)) → Told marker tolerance length X (now (window .entry)) (scan-in state) (next-in r)) */
 gatulefo_meeting_or_none gatulefo_scan_next(const uint8_t *window, size_t window_length, gatulefo_scan_state state, const uint64_t table[1280], uint32_t marker, uint32_t tolerance, uint32_t length);
 
-/* What the scan of a capture that has come whole ends with: 0, or the number of its refusal. `met` is whether anything was met. Of the first state it is 8 or 9 where
- * the tolerance or the length is refused, and else 10: ask so before a scan begins.
+/* What the scan of a capture that has come whole ends with: 0, or the number of its refusal. `met` is whether anything was met. Of the first state it is 8 or 9
+ * where the tolerance or the length is refused, and else 10: ask so before a scan begins.
  * ((m X window : List ℕ) → Stands length X window (scan-in state) → met ≡ any (meetings (bits X) m tolerance length) → r ≡ ending (bits X) m tolerance length) */
 uint8_t gatulefo_scan_end(gatulefo_scan_state state, uint32_t tolerance, uint32_t length, bool met);
 

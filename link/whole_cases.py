@@ -66,8 +66,8 @@ MARKERS = [
     ("000001ff 8 64", 12, b"refused 11\n"),
 ]
 
-# Scans of frames, many bytes of zeros and the frames once more: with meetings in both, with many, with none, in a capture that is too short. With a tolerance of 16 and with a length
-# of 63 some would be met where it was not refused.
+# Scans of frames, many bytes of zeros and the frames once more, and of a capture that is too short for the longest frame. With a tolerance of 16, and with a
+# length of 63, some would be met where it was not refused.
 SCANS = ["1acffc1d 2 8192", "00000000 0 64", "00000000 8 65536", "ffffffff 0 70", "1acffc1d 16 64", "00000000 2 63"]
 
 PIECES = (1, 7, 1000, 8197, 65536)
@@ -211,7 +211,7 @@ def mend_cases():
 
 
 def scan_cases():
-    """What the examples of a scan are asked: in pieces of several sizes, the whole and a part that is too short for the longest frame."""
+    """What the examples of a scan are asked, in pieces of several sizes."""
     frames = (EXAMPLES / "frames.capture").read_bytes()
     for capture in (frames + bytes(30000) + frames, bytes(8195)):
         for words in SCANS:

@@ -1,6 +1,6 @@
-// Captures of any length (document 02, order 5, every position): where a marker stands and stands again one frame later, in order, each once, from pieces of any size.
-// The caller keeps the state from one call to the next and lends a window of more than (length + 38) / 8 bytes, 8,197 for any length, and a table of columns. Ask
-// for meetings until there is none before the next piece is fed: then some bytes of each piece are taken.
+// Captures of any length (document 02, order 5, every position): where a marker stands and stands again one frame later, in order, each once, from pieces of any
+// size. The caller keeps the state from one call to the next and lends a window of more than (length + 38) / 8 bytes, 8,197 for any length, and a table of
+// columns. Ask for meetings until there is none before the next piece is fed: then some bytes of each piece are taken.
 ghost use Prim.Native.Nat.{ℕ, _≤_};
 ghost use mathlib.Core.Path.{_≡_};
 ghost use mathlib.Core.List.{List, []};
@@ -52,8 +52,8 @@ pub extern "C" fn gatulefo_scan_next<'a>(
     link_scan::next(window, state, table, marker, tolerance, length)
 }
 
-// What the scan of a capture that has come whole ends with: 0, or the number of its refusal. `met` is whether anything was met. Of the first state it is 8 or 9 where
-// the tolerance or the length is refused, and else 10: ask so before a scan begins.
+// What the scan of a capture that has come whole ends with: 0, or the number of its refusal. `met` is whether anything was met. Of the first state it is 8 or 9
+// where the tolerance or the length is refused, and else 10: ask so before a scan begins.
 #[no_mangle]
 pub extern "C" fn gatulefo_scan_end(state: ScanState, tolerance: u32, length: u32, met: bool) -> u8
     ensures { λ r. ⌜ ((m X window : List ℕ) → Stands length X window (scan-in state) → met ≡ any (meetings (bits X) m tolerance length) → r ≡ ending (bits X) m tolerance length) ⌝ }

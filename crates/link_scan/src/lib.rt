@@ -1,4 +1,5 @@
-// Captures of any length, as C and Rust are handed them: the functions of `capture_scanning` with plain numbers in place of its values. `gatulefo` exports them.
+// Captures of any length, as C and Rust are handed them: the functions of `capture_scanning`, with plain numbers in place of its values. The crate `gatulefo`
+// exports them.
 ghost use Prim.Native.Nat.{ℕ, _≤_};
 ghost use mathlib.Core.Path.{_≡_};
 ghost use mathlib.Core.List.{List, []};

@@ -4,3 +4,4 @@ pub mod Ink
 pub mod Judging
 pub mod Search
 pub mod Lining
+pub mod Session

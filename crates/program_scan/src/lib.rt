@@ -6,12 +6,13 @@ ghost use mathlib.Core.List.{List, [], _∷_, _++_};
 ghost use lib.ListN.{length, take, drop, getD};
 ghost use lib.Seq.{paste};
 ghost use Rattle.program_digits.specs.Digits.{digits};
-ghost use Rattle.program_digits.specs.Put.{Wrote};
+ghost use Rattle.program_digits.specs.Put.{Wrote, Filled};
 ghost use Rattle.capture_meetings.specs.Meetings.{met, all-from, shift};
 ghost use Rattle.finder_windows.specs.Definition.{bits, mark};
-ghost use Rattle.program_scan.specs.Lines.{line, lines};
+ghost use Rattle.program_scan.specs.Lines.{line, lines, last-line};
 ghost use Rattle.program_scan.specs.Pen.{little, Ready, told, tolds, all-told, Plain, coded, Within, Sought, Put-to};
 ghost use Rattle.finder_columns.specs.Columns.{Columns};
+ghost use Rattle.capture_history.specs.State.{Stands};
 ghost use Rattle.program_scan.specs.Whole.{Lined};
 use capture_history::CAPTURE;
 use capture_history::Scan;
@@ -294,7 +295,7 @@ fn one(block: &mut [u8], text: &mut [u8], held: usize, number: u64, first: u32, 
 }
 
 // How far lines were put, and how many bytes they have.
-struct Filled {
+struct Reached {
     held: usize,
     at: usize,
 }
@@ -350,10 +351,14 @@ fn sought<'a>(
     Answer::Found(p, first, second)
 }
 
-// Puts the lines of the meetings from a position on, below an end. Where one follows another closely, 256 positions are looked at at once, as long as any is met; else the finder
-// passes over what is far.
-fn fill<'a>(
+// Puts the lines of the meetings from a position on, below an end. Where one follows another closely, 256 positions are looked at at once, as long as any is
+// met; else the finder passes over what is far.
+fn walk<'a>(
     block: &mut [u8],
+    text: &mut [u8],
+    pen: Pen,
+    first: &mut [u32; 256],
+    second: &mut [u32; 256],
     buffer: &'a [u8],
     from: usize,
     end: usize,
@@ -362,38 +367,34 @@ fn fill<'a>(
     tolerance: u32,
     frame: u32,
     base: u64,
-) -> Filled
+) -> Reached
     requires { ⌜ from ≤ end ⌝ }
     requires { ⌜ 64 ≤ frame ⌝ }
     requires { ⌜ end + frame + 31 ≤ 8 * length (now buffer) ⌝ }
     requires { ⌜ base + 8 * length (now buffer) ≤ 2 ^ 63 ⌝ }
     requires { ⌜ tolerance ≤ 8 ⌝ }
+    requires { ⌜ length (now text) ≡ 48 ⌝ }
+    requires { ⌜ (length (now first) ≡ 256) × (length (now second) ≡ 256) ⌝ }
+    requires { ⌜ pen .held ≡ 0 ⌝ }
     ensures { λ r. ⌜ (from ≤ r .at) × (r .at ≤ end) × (r .held ≤ length (now (block .entry))) ⌝ }
     ensures { λ r. ⌜ (Columns marker tolerance (now (table .entry)) → Put-to (now (block .entry)) (now (buffer .entry)) from end marker tolerance frame base (now (block .exit)) (r .held) (r .at)) ⌝ }
 {
-    let mut text = [0u8; 48];
-    let mut first = [0u32; 256];
-    let mut second = [0u32; 256];
-    let mut pen = Pen {
-        held: 0,
-        digits: 0,
-        tail: 0,
-    };
+    let mut pen = pen;
     let mut at = from;
     let mut dense = false;
     while at < end {
         let held = pen.held;
         let room = block.len() - held;
         if is_full(room, held) {
-            return Filled { held, at };
+            return Reached { held, at };
         }
         if dense & (room >= MANY) & (end - at >= 288) {
             pen = many(
                 block,
-                &mut text,
+                text,
                 pen,
-                &mut first,
-                &mut second,
+                first,
+                second,
                 buffer,
                 at,
                 marker,
@@ -406,17 +407,62 @@ fn fill<'a>(
         } else {
             let Answer::Found(p, a, b) = sought(buffer, at, end, table, marker, tolerance, frame)
             else {
-                return Filled { held, at: end };
+                return Reached { held, at: end };
             };
-            pen = one(block, &mut text, held, base + p as u64, a, b);
+            pen = one(block, text, held, base + p as u64, a, b);
             dense = p - at < 32;
             at = p + 1;
         }
     }
-    Filled {
+    Reached {
         held: pen.held,
         at: end,
     }
+}
+
+// The same from the start of a block.
+fn fill<'a>(
+    block: &mut [u8],
+    buffer: &'a [u8],
+    from: usize,
+    end: usize,
+    table: &'a [u64; 1280],
+    marker: u32,
+    tolerance: u32,
+    frame: u32,
+    base: u64,
+) -> Reached
+    requires { ⌜ from ≤ end ⌝ }
+    requires { ⌜ 64 ≤ frame ⌝ }
+    requires { ⌜ end + frame + 31 ≤ 8 * length (now buffer) ⌝ }
+    requires { ⌜ base + 8 * length (now buffer) ≤ 2 ^ 63 ⌝ }
+    requires { ⌜ tolerance ≤ 8 ⌝ }
+    ensures { λ r. ⌜ (from ≤ r .at) × (r .at ≤ end) × (r .held ≤ length (now (block .entry))) ⌝ }
+    ensures { λ r. ⌜ (Columns marker tolerance (now (table .entry)) → Put-to (now (block .entry)) (now (buffer .entry)) from end marker tolerance frame base (now (block .exit)) (r .held) (r .at)) ⌝ }
+{
+    let mut text = [0u8; 48];
+    let mut first = [0u32; 256];
+    let mut second = [0u32; 256];
+    let pen = Pen {
+        held: 0,
+        digits: 0,
+        tail: 0,
+    };
+    walk(
+        block,
+        &mut text,
+        pen,
+        &mut first,
+        &mut second,
+        buffer,
+        from,
+        end,
+        table,
+        marker,
+        tolerance,
+        frame,
+        base,
+    )
 }
 
 // How far lines were put: how many bytes they have, whether nothing more is met in what has come, and the scan after them.
@@ -442,8 +488,51 @@ fn limit(positions: usize, before: u64, count: u64) -> usize
     if bits < positions { bits } else { positions }
 }
 
-// Puts the lines of the next meetings in what has come into a block, from its start on: those that begin in a segment's `count` bytes, counted from the capture's start, `from` bytes
-// before the segment.
+// Whether no window of a frame and a marker is in the window that is lent, or what is asked for is no scan of a capture.
+fn is_shut(room: usize, scan: Scan, tolerance: u32, frame: u32, from: u64) -> bool
+    ensures { λ r. ⌜ (r ≡ true → 64 ≤ frame → tolerance ≤ 8 → scan .filled ≤ room → from + (scan .before + scan .filled) ≤ 1152921504606846976 → 8 * scan .filled < frame + 31) ⌝ }
+    ensures { λ r. ⌜ (r ≡ false → (64 ≤ frame) × (tolerance ≤ 8) × (scan .filled ≤ room) × (from + (scan .before + scan .filled) ≤ 1152921504606846976) × (frame + 31 ≤ 8 * scan .filled)) ⌝ }
+{
+    let before = scan.before;
+    let filled = scan.filled;
+    if frame < 64 {
+        return true;
+    }
+    if tolerance > 8 {
+        return true;
+    }
+    if room < filled {
+        return true;
+    }
+    if from > CAPTURE {
+        return true;
+    }
+    if before > CAPTURE - from {
+        return true;
+    }
+    if filled as u64 > CAPTURE - from - before {
+        return true;
+    }
+    8 * filled < frame as usize + 31
+}
+
+// The scan at another bit of the window.
+fn put_to(held: usize, done: bool, scan: Scan, from: usize) -> Put
+    ensures { λ r. ⌜ r ≡ record { held = held; done = done; scan = record { before = scan .before; filled = scan .filled; from = from } } ⌝ }
+{
+    Put {
+        held,
+        done,
+        scan: Scan {
+            before: scan.before,
+            filled: scan.filled,
+            from,
+        },
+    }
+}
+
+// Puts the lines of the next meetings of what has come into a block, from its start on: those that begin in a segment's `count` bytes, counted from the start of
+// the capture whose first `from` bytes lie before the segment.
 pub fn put_lines<'a>(
     block: &mut [u8],
     window: &'a [u8],
@@ -456,52 +545,20 @@ pub fn put_lines<'a>(
     count: u64,
 ) -> Put
     ensures { λ r. ⌜ r .held ≤ length (now (block .entry)) ⌝ }
-    ensures { λ r. ⌜ (64 ≤ frame → tolerance ≤ 8 → Columns marker tolerance (now (table .entry)) → from + (scan .before + scan .filled) ≤ 1152921504606846976 → scan .filled ≤ length (now (window .entry)) → scan .from + (frame + 31) ≤ 8 * scan .filled → Lined marker tolerance frame from count (now (window .entry)) scan (now (block .entry)) (now (block .exit)) r) ⌝ }
+    ensures { λ r. ⌜ ((X : List ℕ) → Stands frame X (now (window .entry)) scan → tolerance ≤ 8 → Columns marker tolerance (now (table .entry)) → from + length X ≤ 1152921504606846976 → Lined marker tolerance frame from count X (now (window .entry)) scan (now (block .entry)) (now (block .exit)) r) ⌝ }
 {
     let before = scan.before;
     let filled = scan.filled;
     let start = scan.from;
-    let whole = Put {
-        held: 0,
-        done: true,
-        scan,
-    };
-    if window.len() < filled {
-        return whole;
+    if is_shut(window.len(), scan, tolerance, frame, from) {
+        return put_to(0, true, scan, start);
     }
-    if frame < 64 {
-        return whole;
-    }
-    if tolerance > 8 {
-        return whole;
-    }
-    if from > CAPTURE {
-        return whole;
-    }
-    if before > CAPTURE - from {
-        return whole;
-    }
-    if filled as u64 > CAPTURE - from - before {
-        return whole;
-    }
-    let tail = frame as usize + 31;
-    if 8 * filled < tail {
-        return whole;
-    }
-    let positions = 8 * filled - tail;
+    let positions = 8 * filled - (frame as usize + 31);
     let end = limit(positions, before, count);
     if end <= start {
-        return Put {
-            held: 0,
-            done: true,
-            scan: Scan {
-                before,
-                filled,
-                from: positions,
-            },
-        };
+        return put_to(0, true, scan, positions);
     }
-    let filled_to = fill(
+    let put = fill(
         block,
         &window[..filled],
         start,
@@ -512,15 +569,17 @@ pub fn put_lines<'a>(
         frame,
         8 * (from + before),
     );
-    let done = filled_to.at == end;
-    let at = if done { positions } else { filled_to.at };
-    Put {
-        held: filled_to.held,
-        done,
-        scan: Scan {
-            before,
-            filled,
-            from: at,
-        },
+    let held = put.held;
+    let at = put.at;
+    if at == end {
+        return put_to(held, true, scan, positions);
     }
+    put_to(held, false, scan, at)
+}
+
+// The last line: what the scan ends with.
+pub fn last_line(refused: u8, out: &mut [u8; 32]) -> usize
+    ensures { λ r. ⌜ Filled (now (out .entry)) (last-line refused) (now (out .exit)) r ⌝ }
+{
+    program_digits::put_count(out, 0, b"refused ", refused as u64)
 }

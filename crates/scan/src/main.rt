@@ -60,9 +60,9 @@ fn flushed(out: &[u8], held: usize) -> bool {
 }
 
 fn report(n: u8) {
-    if !(io::write_all(STDOUT_FILENO, b"refused ")
-        && io::print_decimal(STDOUT_FILENO, n as u64)
-        && io::write_all(STDOUT_FILENO, b"\n")) {
+    let mut text = [0u8; 32];
+    let end = program_scan::last_line(n, &mut text);
+    if !io::write_all(STDOUT_FILENO, &text[..end]) {
         os::fail(b"scan: standard output");
         return;
     }

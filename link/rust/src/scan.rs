@@ -79,8 +79,8 @@ pub struct Scan<'a> {
 }
 
 impl<'a> Scan<'a> {
-    /// A capture of which nothing has come: where the marker stands and stands again `length` bits later, each off by at most `tolerance` bits. The window is the
-    /// scan's until that ends; a longer one than [`WINDOW`] is moved less often.
+    /// A capture of which nothing has come: where the marker stands and stands again `length` bits later, each off by at most `tolerance` bits. The window is
+    /// the scan's until that ends; a longer one than [`WINDOW`] is moved less often.
     ///
     /// # Errors
     ///
@@ -100,8 +100,8 @@ impl<'a> Scan<'a> {
         Ok(scan)
     }
 
-    /// Takes as much of a piece as there is room for, and says how many bytes. These are more than none of any piece that has some, once [`next`](Self::next) has
-    /// said that there is no meeting left, up to 2^60 bytes of a capture.
+    /// Takes as much of a piece as there is room for, and says how many bytes. Once [`next`](Self::next) has said that there is no meeting left, some are taken
+    /// of any piece that has any, up to 2^60 bytes of a capture.
     pub fn feed(&mut self, piece: &[u8]) -> usize {
         let (window, state) = (&mut *self.window, self.state);
         let fed = call!("gatulefo_" scan_feed(window: &mut [u8], state: ScanState, piece: &[u8]) -> FedState);
@@ -126,7 +126,9 @@ impl Iterator for Scan<'_> {
     fn next(&mut self) -> Option<Meeting> {
         let (window, state, table) = (&*self.window, self.state, &self.table);
         let (marker, tolerance, length) = (self.marker, self.tolerance, self.length);
-        let next = call!("gatulefo_" scan_next(window: &[u8], state: ScanState, table: &[u64; 1280], marker: u32, tolerance: u32, length: u32) -> MeetingOrNone);
+        let next = call!("gatulefo_" scan_next(
+            window: &[u8], state: ScanState, table: &[u64; 1280], marker: u32, tolerance: u32, length: u32
+        ) -> MeetingOrNone);
         self.state = next.state;
         self.met |= next.met;
         next.met.then_some(Meeting { position: next.position, first: next.first, second: next.second })
