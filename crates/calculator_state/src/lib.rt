@@ -2,10 +2,13 @@
 pub mod registers;
 
 ghost use mathlib.Core.Path.{_≡_};
-ghost use Rattle.calculator_rules.specs.Definition.{start, reset, taken-up};
+ghost use mathlib.Core.List.{List};
+ghost use Prim.Native.Nat.{ℕ};
+ghost use Rattle.calculator_rules.specs.Definition.{start, taken-up};
 ghost use Rattle.calculator_rules.specs.Shape.{the-kind};
 ghost use Rattle.calculator_scalar.specs.Scalar.{kind-of, bits-of};
-ghost use Rattle.calculator_state.specs.State.{machine};
+ghost use Rattle.calculator_scalar.specs.declared.Scalar.{Scalar};
+ghost use Rattle.calculator_state.specs.State.{machine, held};
 ghost use Rattle.calculator_state.specs.Count.{as-count};
 use calculator_rules::shape::Kind;
 use calculator_scalar::Scalar;
@@ -30,26 +33,15 @@ impl State {
             scalar: Scalar::I32(0),
         }
     }
+}
 
-    // No number beside a register.
-    pub fn reset(self) -> State
-        ensures { λ r. ⌜ machine r ≡ reset (machine self) ⌝ }
-    {
-        let registers = self.registers;
-        let writers = [0u16; 16];
-        let scalar = self.scalar;
-        State {
-            registers,
-            writers,
-            scalar,
-        }
-    }
-
-    // "A run resets all of them to 0 as it starts" (document 02, order 1); "taking up above place 0 does not reset them" (order 12).
-    pub fn taken_up(self, place: usize) -> State
-        ensures { λ r. ⌜ machine r ≡ taken-up place (machine self) ⌝ }
-    {
-        if place == 0 { self.reset() } else { self }
+// Of the numbers beside the registers: "A run resets all of them to 0 as it starts" (document 02, order 1); "taking up above place 0 does not reset them" (order
+// 12).
+pub fn take_up(writers: &mut [u16; 16], place: usize)
+    ensures { λ r. ⌜ ((w : List ℕ) (s : Scalar) → held w (now (writers .exit)) s ≡ taken-up place (held w (now (writers .entry)) s)) ⌝ }
+{
+    if place == 0 {
+        *writers = [0u16; 16];
     }
 }
 

@@ -4,9 +4,6 @@ ghost use mathlib.Core.Path.{_≡_};
 ghost use Rattle.calculator_rules.specs.Definition;
 ghost use Rattle.calculator_state.specs.State.{vectors};
 ghost use Rattle.link_station.specs.Calculate.{machine-held, step-numbers, left-by-step, run-numbers, left-by-run};
-use calculator_state::State;
-use calculator_state::registers::of_words;
-use calculator_state::registers::words;
 use link_station::calculation::KindAndBits;
 use link_station::calculation::RunAnswer;
 use link_station::calculation::StepAnswer;
@@ -45,18 +42,15 @@ pub extern "C" fn gatulefo_run(
 ) -> RunAnswer
     ensures { λ r. ⌜ (vectors (now (registers .exit)), now (writers .exit), run-numbers r) ≡ left-by-run (Definition.run (now (list .entry)) place limit (machine-held (now (registers .entry)) (now (writers .entry)) (scalar .kind) (scalar .bits))) ⌝ }
 {
-    let before = State {
-        registers: of_words(*registers),
-        writers: *writers,
-        scalar: scalar_of(scalar),
-    };
-    let ending = calculator::run::run(before, list, place, limit);
-    let after = ending.state;
-    let outcome = ending.outcome;
-    let all = after.registers;
-    let beside = after.writers;
-    let left = after.scalar;
-    *registers = words(all);
-    *writers = beside;
-    run_answer(kind_and_bits(left), ending.done, outcome)
+    let stopped = calculator::run::run_words(
+        registers,
+        writers,
+        scalar_of(scalar),
+        list,
+        place,
+        limit,
+    );
+    let left = stopped.scalar;
+    let outcome = stopped.outcome;
+    run_answer(kind_and_bits(left), stopped.done, outcome)
 }
