@@ -8,7 +8,7 @@ use native.Mathlib.Omega.{arith}
 use borrow.Author.Tests.{ltb-true, ltb-false}
 use lib.Dec.{ltb}
 use lib.ListN.{length, length-append}
-use Rattle.finder_windows.specs.Definition.{bits, mark}
+use Rattle.finder_windows.specs.Definition.{bits, marker-bits}
 use Rattle.finder_windows.proofs.Bits.{length-bits}
 use Rattle.capture_meetings.specs.Meetings.{Meeting, met, all-from, places, meetings}
 use Rattle.capture_meetings.proofs.Laws.{parts}
@@ -22,10 +22,10 @@ same-next (x ∷ xs) a b ys h = same-next xs a b ys (cc)
 
 module _ (m t L : ℕ) (X : List ℕ) where
   -- what was given at an earlier place is the start of what is given at a later one
-  grows : (r q : Scan) → place r ≤ place q → given m t L X q ≡ given m t L X r ++ all-from (bits X) (mark m) t L (place q - place r) (0 + place r)
+  grows : (r q : Scan) → place r ≤ place q → given m t L X q ≡ given m t L X r ++ all-from (bits X) (marker-bits m) t L (place q - place r) (0 + place r)
   grows r q h =
       let all : place r + (place q - place r) ≡ place q = omega arith in
-      rw all at (parts (mark m) t L (bits X) (place r) (place q - place r) 0)
+      rw all at (parts (marker-bits m) t L (bits X) (place r) (place q - place r) 0)
 
   module _ (window : List ℕ) (s : Scan) where
     -- two meetings
@@ -35,11 +35,11 @@ module _ (m t L : ℕ) (X : List ℕ) where
       where
         by : (b : Bool) → ltb (place r) (place q) ≡ b → met p d e ≡ met p' d' e'
         by true h =
-            let more = all-from (bits X) (mark m) t L (place q - place r) (0 + place r) in
+            let more = all-from (bits X) (marker-bits m) t L (place q - place r) (0 + place r) in
             sym (same-next (given m t L X s) (met p' d' e') (met p d e) more
             (sym (two .1) ∙ grows r q (omega (arith, ltb-true (place r) (place q) h)) ∙ ap (λ (z : List Meeting). z ++ more) (one .1)))
         by false h =
-            let more = all-from (bits X) (mark m) t L (place r - place q) (0 + place q) in
+            let more = all-from (bits X) (marker-bits m) t L (place r - place q) (0 + place q) in
             same-next (given m t L X s) (met p d e) (met p' d' e') more
             (sym (one .1) ∙ grows q r (ltb-false (place r) (place q) h) ∙ ap (λ (z : List Meeting). z ++ more) (two .1))
 
@@ -48,5 +48,5 @@ module _ (m t L : ℕ) (X : List ℕ) where
     never-both p d e r q one two =
         let before : place r ≤ place q = omega (arith, one .0 .reached, two .3) in
         let most = ap length (sym (two .1) ∙ grows r q before
-        ∙ ap (λ (z : List Meeting). z ++ all-from (bits X) (mark m) t L (place q - place r) (0 + place r)) (one .1)) in
+        ∙ ap (λ (z : List Meeting). z ++ all-from (bits X) (marker-bits m) t L (place q - place r) (0 + place r)) (one .1)) in
         omega (arith, simp length-append at most)

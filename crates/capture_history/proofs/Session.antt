@@ -4,7 +4,7 @@ use mathlib.Core.List.{List, [], _∷_, _++_}
 use Prim.Native.Nat.{ℕ, _+_, _*_, _-_, _≤_}
 use native.Mathlib.Omega.{arith}
 use lib.ListN.{length, take}
-use Rattle.finder_windows.specs.Definition.{bits, mark}
+use Rattle.finder_windows.specs.Definition.{bits, marker-bits}
 use Rattle.capture_meetings.specs.Meetings.{Meeting, met, all-from, places, meetings}
 use Rattle.capture_history.specs.State.{place, Stands, given, Told, Taken}
 use Rattle.capture_history.specs.declared.Scan.{Scan}
@@ -27,12 +27,12 @@ module _ (m t L : ℕ) where
   unfolding all-from
   so-far X window s G (started w z h) =
       let none : place s ≡ 0 = omega (arith, h .reached) in
-      (h, sym (ap (λ (n : ℕ). all-from (bits []) (mark m) t L n 0) none))
+      (h, sym (ap (λ (n : ℕ). all-from (bits []) (marker-bits m) t L n 0) none))
   so-far X window s G (fed Y w after piece z r H past taken) =
       let before = so-far Y w z H past in (
         taken .stands,
-        before .1 ∙ sym (ap (λ (n : ℕ). all-from (bits (Y ++ take (r .used) piece)) (mark m) t L n 0) (taken .same)
-            ∙ grown (mark m) t L Y (take (r .used) piece) (place z) (before .0 .reached)),
+        before .1 ∙ sym (ap (λ (n : ℕ). all-from (bits (Y ++ take (r .used) piece)) (marker-bits m) t L n 0) (taken .same)
+            ∙ grown (marker-bits m) t L Y (take (r .used) piece) (place z) (before .0 .reached)),
       )
   so-far X window s G (found Y w z r p d e H past told) =
       let before = so-far Y w z H past in
@@ -43,5 +43,5 @@ module _ (m t L : ℕ) where
 
   -- Where nothing more is met, every meeting of what has come has been given, in order and each once, however it was cut.
   pub whole : (X window : List ℕ) (s r : Scan) (G : List Meeting) → Session m t L X window s G → Told m t L X window s (Next.More r)
-      → G ≡ meetings (bits X) (mark m) t L
+      → G ≡ meetings (bits X) (marker-bits m) t L
   whole X window s r G past told = so-far X window s G past .1 ∙ sym (told .1) ∙ told .2

@@ -7,7 +7,7 @@ use native.Mathlib.Nat.{zero-add}
 use native.Mathlib.Omega.{arith}
 use lib.ListN.{length, take, drop, getD, length-append, length-take, length-drop, take-append-drop}
 use lib.Seq.{drop-at, drop-drop, length-take-le, take-at, drop-append-le, paste, take-paste, length-paste, getD-append-add, getD-drop}
-use Rattle.finder_windows.specs.Definition.{bits, mark, window, distance, Answer, found, refused, stands, first-from}
+use Rattle.finder_windows.specs.Definition.{bits, marker-bits, window, distance, Answer, found, refused, stands, first-from}
 use Rattle.finder_windows.proofs.Bits.{bits-append, length-bits}
 use Rattle.capture_meetings.specs.Meetings.{Meeting, met, all-from, places, meetings, shift, first-of}
 use Rattle.capture_history.specs.State.{place, Stands, given, Told, Kept, Taken}
@@ -94,17 +94,17 @@ module _ (m : List ℕ) (t L : ℕ) where
 
 module _ (m t L : ℕ) (X window : List ℕ) (s : Scan) (h : Stands L X window s) where
   -- every position has been searched
-  pub complete : (r : Scan) → place r ≡ places L (8 * length X) → given m t L X r ≡ meetings (bits X) (mark m) t L
+  pub complete : (r : Scan) → place r ≡ places L (8 * length X) → given m t L X r ≡ meetings (bits X) (marker-bits m) t L
   unfolding meetings
   complete r e =
       let count : place r ≡ places L (length (bits X)) = omega (arith, length-bits X) in
-      ap (λ (n : ℕ). all-from (bits X) (mark m) t L n 0) count
+      ap (λ (n : ℕ). all-from (bits X) (marker-bits m) t L n 0) count
 
-  pub told-met : (n q d e : ℕ) → n ≡ 8 * s .filled - (L + 31) - s .from → first-from (bits (take (s .filled) window)) (mark m) t L n (s .from) ≡ found q d e
+  pub told-met : (n q d e : ℕ) → n ≡ 8 * s .filled - (L + 31) - s .from → first-from (bits (take (s .filled) window)) (marker-bits m) t L n (s .from) ≡ found q d e
       → Told m t L X window s (Next.Met (8 * s .before + q) d e (record { before = s .before; filled = s .filled; from = q + 1 }))
   told-met n q d e count f =
       let all = h .all in
-      let head = head-of (mark m) t L (bits (take (s .filled) window)) n (s .from) q d e f in (
+      let head = head-of (marker-bits m) t L (bits (take (s .filled) window)) n (s .from) q d e f in (
         record {
           frame = h .frame;
           inside = h .inside;
@@ -113,17 +113,17 @@ module _ (m t L : ℕ) (X window : List ℕ) (s : Scan) (h : Stands L X window s
           tail = h .tail;
           reached = omega (arith, head .low, head .high, h .reached);
         },
-        met-more (mark m) t L X (take (s .filled) window) (s .before) (s .from) (omega arith) (h .tail) n q d e f,
+        met-more (marker-bits m) t L X (take (s .filled) window) (s .before) (s .from) (omega arith) (h .tail) n q d e f,
       )
 
   pub told-more : (n k : ℕ) → n ≡ 8 * s .filled - (L + 31) - s .from → s .from + (L + 31) ≤ 8 * s .filled
-      → first-from (bits (take (s .filled) window)) (mark m) t L n (s .from) ≡ refused k
+      → first-from (bits (take (s .filled) window)) (marker-bits m) t L n (s .from) ≡ refused k
       → Told m t L X window s (Next.More (record { before = s .before; filled = s .filled; from = 8 * s .filled - (L + 31) }))
   told-more n k count l f =
       let all = h .all in
       let r : Scan = record { before = s .before; filled = s .filled; from = 8 * s .filled - (L + 31) } in (
         record { frame = h .frame; inside = h .inside; all = h .all; few = h .few; tail = h .tail; reached = omega (arith, h .reached) },
-        none-more (mark m) t L X (take (s .filled) window) (s .before) (s .from) (omega arith) (h .tail) k (8 * s .filled - (L + 31)) (omega arith)
+        none-more (marker-bits m) t L X (take (s .filled) window) (s .before) (s .from) (omega arith) (h .tail) k (8 * s .filled - (L + 31)) (omega arith)
             (rw count at f),
         complete r (omega arith),
         omega arith,

@@ -3,7 +3,7 @@ use Prim.Native.Nat.{ℕ, _+_, _-_, _*_, _/_, _<_, _≤_}
 use mathlib.Core.Path.{_≡_}
 use mathlib.Core.List.{List, [], _∷_, _++_}
 use lib.ListN.{length, take, drop}
-use Rattle.finder_windows.specs.Definition.{bits, mark}
+use Rattle.finder_windows.specs.Definition.{bits, marker-bits}
 use Rattle.capture_meetings.specs.Meetings.{Meeting, met, all-from, places, meetings}
 use Rattle.capture_history.specs.declared.Scan.{Scan}
 use Rattle.capture_history.specs.declared.Next.{Next}
@@ -24,13 +24,13 @@ pub record Stands (L : ℕ) (X window : List ℕ) (s : Scan) : Type 0 where
 
 -- what has been given: the meetings before `place`
 abbrev pub given : ℕ → ℕ → ℕ → List ℕ → Scan → List Meeting
-given m t L X s = all-from (bits X) (mark m) t L (place s) 0
+given m t L X s = all-from (bits X) (marker-bits m) t L (place s) 0
 
 -- A meeting: it is the next after what has been given. None: what has been given is every meeting of what has come, and no position is left.
 abbrev pub Told : ℕ → ℕ → ℕ → List ℕ → List ℕ → Scan → Next → Type 0
 Told m t L X window s (Next.Met p d e r) = (Stands L X window r) × (given m t L X r ≡ given m t L X s ++ (met p d e ∷ []))
 Told m t L X window s (Next.More r) =
-    (Stands L X window r) × (given m t L X r ≡ given m t L X s) × (given m t L X r ≡ meetings (bits X) (mark m) t L) × (place r ≡ places L (8 * length X))
+    (Stands L X window r) × (given m t L X r ≡ given m t L X s) × (given m t L X r ≡ meetings (bits X) (marker-bits m) t L) × (place r ≡ places L (8 * length X))
 
 -- the same capture in another window
 pub record Kept (L : ℕ) (X window : List ℕ) (s r : Scan) : Type 0 where

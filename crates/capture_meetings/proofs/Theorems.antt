@@ -8,7 +8,7 @@ use borrow.Author.Tests.{ne-eqb}
 use lib.Dec.{ltb}
 use lib.ListN.{length, take, drop, length-drop}
 use lib.Seq.{drop-drop}
-use Rattle.finder_windows.specs.Definition.{bits, mark, window, distance, stands, refusal, first-from, find}
+use Rattle.finder_windows.specs.Definition.{bits, marker-bits, window, distance, stands, refusal, first-from, find, barred}
 use Rattle.finder_windows.proofs.Refusals.{admitted, find-searched}
 use Rattle.capture_meetings.specs.Meetings.{Meeting, met, all-from, places, meetings, shift, segment, first-of, any, ending}
 use Rattle.capture_meetings.proofs.Laws.{shift-none, shift-zero, shift-shift, shift-append, cut, carry}
@@ -91,12 +91,12 @@ module _ (m : List ℕ) (t L : ℕ) where
       by false e rest = rw e rest
 
 -- What the finder answers, where it does not refuse with 8, 9 or 10, is the first of them.
-pub finder-first : (buffer : List ℕ) (marker t L : ℕ) → refusal buffer t L ≡ 0 → find buffer marker t L ≡ first-of (meetings (bits buffer) (mark marker) t L)
+pub finder-first : (buffer : List ℕ) (marker t L : ℕ) → refusal buffer t L ≡ 0 → find buffer marker t L ≡ first-of (meetings (bits buffer) (marker-bits marker) t L)
 unfolding meetings
 finder-first buffer marker t L e =
     let room = admitted buffer t L e .room in
     let count : suc (length (bits buffer) - (L + 32)) ≡ length (bits buffer) - (L + 31) = omega arith in
-    find-searched buffer marker t L e ∙ rw count (first-is (mark marker) t L (bits buffer) (length (bits buffer) - (L + 31)) 0)
+    find-searched buffer marker t L e ∙ rw count (first-is (marker-bits marker) t L (bits buffer) (length (bits buffer) - (L + 31)) 0)
 
 -- ---- in order, each once
 

@@ -5,7 +5,7 @@ ghost use mathlib.Core.Path.{_≡_};
 ghost use mathlib.Core.Bool.{false};
 ghost use lib.ListN.{length, take, drop};
 ghost use lib.ListN as List;
-ghost use Rattle.finder_windows.specs.Definition.{binary, bits, mark, window, distance, first-from, find};
+ghost use Rattle.finder_windows.specs.Definition.{binary, bits, marker-bits, window, distance, first-from, find};
 ghost use Rattle.finder_windows.specs.Answer.{answer-of};
 ghost use Rattle.finder_columns.specs.Columns.{Columns};
 pub use finder_windows::Answer;
@@ -32,7 +32,7 @@ fn word_at(buffer: &[u8], at: usize) -> u64
 // The distance of the 32 bits that stand k places below the top of a word.
 fn apart(word: u64, k: usize, marker: u32) -> u32
     requires { ⌜ k ≤ 32 ⌝ }
-    ensures { λ r. ⌜ r ≡ distance (window (binary 64 word) k) (mark marker) ⌝ }
+    ensures { λ r. ⌜ r ≡ distance (window (binary 64 word) k) (marker-bits marker) ⌝ }
 {
     let seen = ((word >> (32 - k)) % 4294967296) as u32;
     finder_windows::apart(seen, marker)
@@ -41,7 +41,7 @@ fn apart(word: u64, k: usize, marker: u32) -> u32
 // Whether any of the first 32 windows of a word is within the tolerance. A turn decides nothing, so the compiler takes four at once. Only `false` is a
 // promise: a word that is looked at for nothing costs time and no answer.
 fn near(word: u64, marker: u32, tolerance: u32) -> bool
-    ensures { λ r. ⌜ (r ≡ false → (k : ℕ) → k < 32 → tolerance < distance (window (binary 64 word) k) (mark marker)) ⌝ }
+    ensures { λ r. ⌜ (r ≡ false → (k : ℕ) → k < 32 → tolerance < distance (window (binary 64 word) k) (marker-bits marker)) ⌝ }
 {
     let mut any = false;
     for k in 0..32 {
@@ -66,7 +66,7 @@ fn among(
     requires { ⌜ count ≤ 16 ⌝ }
     requires { ⌜ 8 * at + count + frame + 31 ≤ 8 * length (now buffer) ⌝ }
     requires { ⌜ length (now buffer) ≤ 1152921504606846976 ⌝ }
-    ensures { λ r. ⌜ answer-of r ≡ first-from (bits (now (buffer .entry))) (mark marker) tolerance frame (count - skip) (8 * at + skip) ⌝ }
+    ensures { λ r. ⌜ answer-of r ≡ first-from (bits (now (buffer .entry))) (marker-bits marker) tolerance frame (count - skip) (8 * at + skip) ⌝ }
 {
     let here = word_at(buffer, at);
     let end = (8 * at + count + frame + 30) / 8;
@@ -97,7 +97,7 @@ fn through(
     requires { ⌜ 64 ≤ frame ⌝ }
     requires { ⌜ 8 * from + count + frame + 31 ≤ 8 * length (now buffer) ⌝ }
     requires { ⌜ length (now buffer) ≤ 1152921504606846976 ⌝ }
-    ensures { λ r. ⌜ answer-of r ≡ first-from (bits (now (buffer .entry))) (mark marker) tolerance frame count (8 * from) ⌝ }
+    ensures { λ r. ⌜ answer-of r ≡ first-from (bits (now (buffer .entry))) (marker-bits marker) tolerance frame count (8 * from) ⌝ }
 {
     let mut at = from;
     let mut left = count;
@@ -117,7 +117,7 @@ fn by_words(buffer: &[u8], count: usize, marker: u32, tolerance: u32, frame: usi
     requires { ⌜ 64 ≤ frame ⌝ }
     requires { ⌜ count + frame + 31 ≤ 8 * length (now buffer) ⌝ }
     requires { ⌜ length (now buffer) ≤ 1152921504606846976 ⌝ }
-    ensures { λ r. ⌜ answer-of r ≡ first-from (bits (now (buffer .entry))) (mark marker) tolerance frame count 0 ⌝ }
+    ensures { λ r. ⌜ answer-of r ≡ first-from (bits (now (buffer .entry))) (marker-bits marker) tolerance frame count 0 ⌝ }
 {
     let mut at = 0;
     let mut left = count;
@@ -147,7 +147,7 @@ fn by_columns<'a>(
     requires { ⌜ 64 ≤ frame ⌝ }
     requires { ⌜ 8 * from + count + frame + 31 ≤ 8 * length (now buffer) ⌝ }
     requires { ⌜ length (now buffer) ≤ 1152921504606846976 ⌝ }
-    ensures { λ r. ⌜ (Columns marker tolerance (now (table .entry)) → answer-of r ≡ first-from (bits (now (buffer .entry))) (mark marker) tolerance frame count (8 * from)) ⌝ }
+    ensures { λ r. ⌜ (Columns marker tolerance (now (table .entry)) → answer-of r ≡ first-from (bits (now (buffer .entry))) (marker-bits marker) tolerance frame count (8 * from)) ⌝ }
 {
     let end = from + count / 8;
     let mut at = finder_passing::next(buffer, from, end, table);
@@ -169,7 +169,7 @@ fn by_columns<'a>(
 fn only(buffer: &[u8], marker: u32, tolerance: u32, frame: usize) -> Answer
     requires { ⌜ 64 ≤ frame ⌝ }
     requires { ⌜ 8 * length (now buffer) ≡ frame + 32 ⌝ }
-    ensures { λ r. ⌜ answer-of r ≡ first-from (bits (now (buffer .entry))) (mark marker) tolerance frame 1 0 ⌝ }
+    ensures { λ r. ⌜ answer-of r ≡ first-from (bits (now (buffer .entry))) (marker-bits marker) tolerance frame 1 0 ⌝ }
 {
     let first = apart(word_at(buffer, 0), 0, marker);
     if first > tolerance {
@@ -191,7 +191,7 @@ fn search(buffer: &[u8], marker: u32, tolerance: u32, frame: usize) -> Answer
     requires { ⌜ 64 ≤ frame ⌝ }
     requires { ⌜ frame + 32 ≤ 8 * length (now buffer) ⌝ }
     requires { ⌜ length (now buffer) ≤ 1152921504606846976 ⌝ }
-    ensures { λ r. ⌜ answer-of r ≡ first-from (bits (now (buffer .entry))) (mark marker) tolerance frame (suc (8 * length (now (buffer .entry)) - (frame + 32))) 0 ⌝ }
+    ensures { λ r. ⌜ answer-of r ≡ first-from (bits (now (buffer .entry))) (marker-bits marker) tolerance frame (suc (8 * length (now (buffer .entry)) - (frame + 32))) 0 ⌝ }
 {
     let positions = 8 * buffer.len() - frame - 31;
     if positions == 1 {
@@ -237,7 +237,7 @@ pub fn next<'a>(
     tolerance: u32,
     length: u32,
 ) -> Answer
-    ensures { λ r. ⌜ (64 ≤ length → List.length (now (buffer .entry)) ≤ 1152921504606846976 → from + (length + 31) ≤ 8 * List.length (now (buffer .entry)) → Columns marker tolerance (now (table .entry)) → answer-of r ≡ first-from (bits (now (buffer .entry))) (mark marker) tolerance length (8 * List.length (now (buffer .entry)) - (length + 31) - from) from) ⌝ }
+    ensures { λ r. ⌜ (64 ≤ length → List.length (now (buffer .entry)) ≤ 1152921504606846976 → from + (length + 31) ≤ 8 * List.length (now (buffer .entry)) → Columns marker tolerance (now (table .entry)) → answer-of r ≡ first-from (bits (now (buffer .entry))) (marker-bits marker) tolerance length (8 * List.length (now (buffer .entry)) - (length + 31) - from) from) ⌝ }
 {
     let frame = length as usize;
     let bytes = buffer.len();

@@ -10,7 +10,7 @@ use Rattle.standard.specs.Lanes.{joined, lanes, extract}
 use Rattle.standard.specs.Instruction.{table, instruction}
 use Rattle.standard.proofs.Digits.{Below, joined-lt, lanes-joined}
 use Rattle.calculator_rules.specs.Definition.{Ending, ended, start, run, steps, step, effect, refusal}
-use Rattle.finder_windows.specs.Definition.{binary, bits, mark, window, distance}
+use Rattle.finder_windows.specs.Definition.{binary, bits, marker-bits, window, distance}
 use Rattle.finder_windows.proofs.Bits.{spelt, spelt-all}
 use Rattle.finder_correlator.specs.Correlator.{correlated, steps-of, sent}
 use Rattle.finder_correlator.proofs.Words.{as-held, marker-bytes, window-bytes}
@@ -75,7 +75,7 @@ module _ (c0 c1 c2 c3 c4 c5 c6 c7 c8 c9 c10 c11 c12 c13 c14 c15 m0 m1 m2 m3 : �
     distances =
         ap (lanes 32) (steps-correlate ∙ ap₂ correlated by-words scalar)
         ∙ lanes-are-distances (joined 32 in-words) (joined 8 sought) (joined-lt 32 in-words words-below) (joined-lt 8 sought hm)
-        ∙ ap (map (λ w. distance (binary 32 w) (mark (joined 8 sought)))) (lanes-joined 32 refl in-words refl words-below)
+        ∙ ap (map (λ w. distance (binary 32 w) (marker-bits (joined 8 sought)))) (lanes-joined 32 refl in-words refl words-below)
         ∙ alike (as-held (four c0 c1 c2 c3) sought refl refl h0 hm) (as-held (four c4 c5 c6 c7) sought refl refl h1 hm)
         (as-held (four c8 c9 c10 c11) sought refl refl h2 hm) (as-held (four c12 c13 c14 c15) sought refl refl h3 hm)
 
@@ -93,14 +93,14 @@ module _ (buffer : List ℕ) (at m : ℕ) (fits : at + 16 ≤ length buffer) whe
   -- and leaves the distances of the windows at that byte and at the three that follow it in steps of four
   pub calculator-counts-distances : ((i : ℕ) → getD buffer i 0 < 256)
       → left-in-register-6 (correlation (take 16 (drop at buffer)) (sent m))
-      ≡ distance (window (bits buffer) (8 * at)) (mark m) ∷ distance (window (bits buffer) (8 * (at + 4))) (mark m) ∷ distance
-      (window (bits buffer) (8 * (at + 8))) (mark m) ∷
-      distance (window (bits buffer) (8 * (at + 12))) (mark m) ∷ []
+      ≡ distance (window (bits buffer) (8 * at)) (marker-bits m) ∷ distance (window (bits buffer) (8 * (at + 4))) (marker-bits m) ∷ distance
+      (window (bits buffer) (8 * (at + 8))) (marker-bits m) ∷
+      distance (window (bits buffer) (8 * (at + 12))) (marker-bits m) ∷ []
   calculator-counts-distances h =
       ap (λ (l : List ℕ). left-in-register-6 (correlation l (sent m))) (spelt-all buffer at 16 fits)
       ∙ distances (b 0) (b 1) (b 2) (b 3) (b 4) (b 5) (b 6) (b 7) (b 8) (b 9) (b 10) (b 11) (b 12) (b 13) (b 14) (b 15) _ _ _ _
       (below 0) (below 4) (below 8) (below 12) (small (m / 2 ^ 24), (small (m / 2 ^ 16), (small (m / 2 ^ 8), (small m, tt))))
-      ∙ alike (place 0 (omega arith) ∙ ap (λ (k : ℕ). distance (window (bits buffer) (8 * k)) (mark m)) (add-zero at)) (place 4 (omega arith))
+      ∙ alike (place 0 (omega arith) ∙ ap (λ (k : ℕ). distance (window (bits buffer) (8 * k)) (marker-bits m)) (add-zero at)) (place 4 (omega arith))
       (place 8 (omega arith)) (place 12 (omega arith))
     where
       below : (i : ℕ) → Below 256 (spelt buffer at i 4 [])
@@ -110,5 +110,5 @@ module _ (buffer : List ℕ) (at m : ℕ) (fits : at + 16 ≤ length buffer) whe
       small x = mod-lt x (lit< tt)
 
       place : (i : ℕ) → at + i + 4 ≤ length buffer → distance (bits (spelt buffer at i 4 [])) (bits (sent m))
-          ≡ distance (window (bits buffer) (8 * (at + i))) (mark m)
+          ≡ distance (window (bits buffer) (8 * (at + i))) (marker-bits m)
       place i l = ap₂ distance (sym (window-bytes buffer at i l)) (marker-bytes m)

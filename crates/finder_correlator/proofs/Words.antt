@@ -13,16 +13,16 @@ use Rattle.standard.specs.Lanes.{joined, zip}
 use Rattle.standard.specs.Integer.{ipopcnt}
 use Rattle.standard.proofs.Digits.{Below, joined-lt}
 use Rattle.lane_integer.proofs.Product.{counts}
-use Rattle.finder_windows.specs.Definition.{binary, bits, mark, window, distance}
+use Rattle.finder_windows.specs.Definition.{binary, bits, marker-bits, window, distance}
 use Rattle.finder_windows.proofs.Bits.{length-binary, length-bits, bits-append, bits-from, binary-split, binary-same, spelt, spelt-from}
 use Rattle.finder_windows.proofs.Distance.{distance-append, distance-cut, distance-ones, distance-words}
 use Rattle.finder_correlator.specs.Correlator.{sent}
 
-word : (w m : ℕ) → w < 2 ^ 32 → m < 2 ^ 32 → ipopcnt 32 (bitXor w m) ≡ distance (binary 32 w) (mark m)
+word : (w m : ℕ) → w < 2 ^ 32 → m < 2 ^ 32 → ipopcnt 32 (bitXor w m) ≡ distance (binary 32 w) (marker-bits m)
 word w m hw hm = sym (distance-words w m hw hm ∙ counts 32 (bitXor w m) (xor-lt 32 w m hw hm))
 
 pub words : (m : ℕ) → m < 2 ^ 32 → (ws : List ℕ) → Below (2 ^ 32) ws
-    → map (ipopcnt 32) (zip bitXor ws (replicate (length ws) m)) ≡ map (λ w. distance (binary 32 w) (mark m)) ws
+    → map (ipopcnt 32) (zip bitXor ws (replicate (length ws) m)) ≡ map (λ w. distance (binary 32 w) (marker-bits m)) ws
 words m hm [] b = refl
 words m hm (w ∷ ws) b = ap₂ (λ (d : ℕ) (ds : List ℕ). d ∷ ds) (word w m (b .0) hm) (words m hm ws (b .1))
 
@@ -50,14 +50,14 @@ bytes (x ∷ xs) (y ∷ ys) b c e =
 
 -- four bytes as a lane holds them, lowest first, against four bytes of a marker held likewise
 pub as-held : (xs ys : List ℕ) → length xs ≡ 4 → length ys ≡ 4 → Below 256 xs → Below 256 ys
-    → distance (binary 32 (joined 8 xs)) (mark (joined 8 ys)) ≡ distance (bits xs) (bits ys)
+    → distance (binary 32 (joined 8 xs)) (marker-bits (joined 8 ys)) ≡ distance (bits xs) (bits ys)
 as-held xs ys e f b c = distance-words (joined 8 xs) (joined 8 ys) (held xs e b) (held ys f c) ∙ sym (bytes xs ys b c (e ∙ sym f))
   where
     held : (zs : List ℕ) → length zs ≡ 4 → Below 256 zs → joined 8 zs < 2 ^ 32
     held zs e b = subst (λ (n : ℕ). joined 8 zs < 2 ^ (8 * n)) e (joined-lt 8 zs b)
 
 -- the bytes of a marker, as a buffer has them
-pub marker-bytes : (m : ℕ) → bits (sent m) ≡ mark m
+pub marker-bytes : (m : ℕ) → bits (sent m) ≡ marker-bits m
 unfolding bits
 marker-bytes m =
     ap₂ (λ (x y : List ℕ). x ++ y) (cut (m / 2 ^ 24)) (ap₂ (λ (x y : List ℕ). x ++ y) (cut (m / 2 ^ 16)) (ap₂ (λ (x y : List ℕ). x ++ y) (cut (m / 2 ^ 8))

@@ -8,7 +8,7 @@ use lib.Pow.{high, low, split, pow-add, pow-pos, mod-pow-add, shr-lt}
 use borrow.Author.Count.{below-more}
 use lib.ListN.{length, take, drop, getD, set}
 use lib.Seq.{getD-set-same, getD-set-other}
-use Rattle.finder_windows.specs.Definition.{binary, bits, mark, window, distance}
+use Rattle.finder_windows.specs.Definition.{binary, bits, marker-bits, window, distance}
 use Rattle.finder_distances.specs.Windows.{after}
 use Rattle.finder_windows.proofs.Bits.{binary-window, word-more, window-inside}
 
@@ -49,9 +49,9 @@ module _ (h n s : ℕ) (small : n < 256) (few : s < 8) where
 
 -- the window that stands s places below the top of the forty bits from a byte on
 pub inside : (bs : List ℕ) (at h s m : ℕ) → at + 5 ≤ length bs → s < 8 → getD bs (at + 4) 0 < 256 → binary 32 h ≡ bits (take 4 (drop at bs))
-    → distance (binary 32 ((h * 256 + getD bs (at + 4) 0) / 2 ^ (8 - s) % 2 ^ 32)) (mark m) ≡ distance (window (bits bs) (8 * at + s)) (mark m)
+    → distance (binary 32 ((h * 256 + getD bs (at + 4) 0) / 2 ^ (8 - s) % 2 ^ 32)) (marker-bits m) ≡ distance (window (bits bs) (8 * at + s)) (marker-bits m)
 inside bs at h s m room few byte e =
-    ap (λ (l : List ℕ). distance l (mark m))
+    ap (λ (l : List ℕ). distance l (marker-bits m))
     (sym (binary-window 40 s (8 - s) (h * 256 + getD bs (at + 4) 0) (omega arith))
     ∙ ap (λ (l : List ℕ). window l s) (word-more bs at 4 h (omega arith) byte e) ∙ window-inside bs at 5 s room (omega arith))
 

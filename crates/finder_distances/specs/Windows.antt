@@ -3,7 +3,7 @@ use Prim.Native.Nat.{ℕ, _+_, _*_, _/_, _%_, _<_}
 use mathlib.Core.Path.{_≡_}
 use mathlib.Core.List.{List}
 use lib.ListN.{length, getD, take, drop}
-use Rattle.finder_windows.specs.Definition.{binary, bits, mark, window, distance}
+use Rattle.finder_windows.specs.Definition.{binary, bits, marker-bits, window, distance}
 
 -- how far after the first the window of an entry begins
 abbrev pub after : ℕ → ℕ
@@ -11,7 +11,7 @@ after i = 8 * (i % 32) + i / 32
 
 -- the first n entries for the windows from bit p of a buffer on
 abbrev pub Laid : List ℕ → ℕ → ℕ → List ℕ → ℕ → Type 0
-Laid bs p m away n = (length away ≡ 256) × ((i : ℕ) → i < n → getD away i 0 ≡ distance (window (bits bs) (p + after i)) (mark m))
+Laid bs p m away n = (length away ≡ 256) × ((i : ℕ) → i < n → getD away i 0 ≡ distance (window (bits bs) (p + after i)) (marker-bits m))
 
 -- The 32 bits that begin in each of n bytes from one on, and the byte after them.
 abbrev pub Spread : List ℕ → ℕ → List ℕ → List ℕ → ℕ → Type 0

@@ -10,7 +10,7 @@ use lib.Pow.{pow-pos, pow-add, pow-mono, shl-shr, shr-shr, high-ones, shr-lt}
 use lib.Bits.{bitAnd, bitXor, and-high, xor-block, xor-lt, xor-shr, xor-mod, and-shr, and-mod}
 use lib.Count.{ones, ones-cat}
 use lib.ListN.{length, getD}
-use Rattle.finder_windows.specs.Definition.{binary, bits, mark, window, distance}
+use Rattle.finder_windows.specs.Definition.{binary, bits, marker-bits, window, distance}
 use Rattle.finder_windows.proofs.Bits.{binary-push, binary-window, window-inside, spelt-all}
 use Rattle.finder_windows.proofs.Distance.{distance-words}
 use Rattle.finder_columns.specs.Columns.{piece, differing}
@@ -60,11 +60,11 @@ module _ (a b c d e m r : ℕ) (ha : a < 256) (hb : b < 256) (hc : c < 256) (hd 
   seen : ℕ
   seen = number / 2 ^ j % 2 ^ 32
 
-  apart : distance (window (bits (a ∷ b ∷ c ∷ d ∷ e ∷ [])) r) (mark m) ≡ ones (bitXor seen m)
+  apart : distance (window (bits (a ∷ b ∷ c ∷ d ∷ e ∷ [])) r) (marker-bits m) ≡ ones (bitXor seen m)
   unfolding seen j
   apart =
       let all : 40 ≡ r + (32 + (8 - r)) = omega arith in
-      ap (λ (l : List ℕ). distance l (mark m)) (ap (λ (l : List ℕ). window l r) five ∙ binary-window 40 r (8 - r) number all)
+      ap (λ (l : List ℕ). distance l (marker-bits m)) (ap (λ (l : List ℕ). window l r) five ∙ binary-window 40 r (8 - r) number all)
       ∙ distance-words (number / 2 ^ (8 - r) % 2 ^ 32) m (mod-lt (number / 2 ^ (8 - r)) (pow-pos 32)) hm
 
   -- what differs, in its place among the 40 bits
@@ -92,7 +92,7 @@ module _ (a b c d e m r : ℕ) (ha : a < 256) (hb : b < 256) (hc : c < 256) (hd 
       ∙ xor-mod (bitAnd (number / 2 ^ k) (4294967295 * 2 ^ j / 2 ^ k)) (m * 2 ^ j / 2 ^ k) 8
       ∙ ap₂ bitXor (and-mod (number / 2 ^ k) (4294967295 * 2 ^ j / 2 ^ k) 8 ∙ ap₂ bitAnd h (piece-is 4294967295 q r k hr e)) (piece-is m q r k hr e)
 
-  five-shares : distance (window (bits (a ∷ b ∷ c ∷ d ∷ e ∷ [])) r) (mark m)
+  five-shares : distance (window (bits (a ∷ b ∷ c ∷ d ∷ e ∷ [])) r) (marker-bits m)
       ≡ ones (differing m 0 r a) + ones (differing m 1 r b) + ones (differing m 2 r c) + ones (differing m 3 r d) + ones (differing m 4 r e)
   unfolding number ones
   five-shares =
@@ -110,10 +110,10 @@ module _ (a b c d e m r : ℕ) (ha : a < 256) (hb : b < 256) (hc : c < 256) (hd 
 pub shares : (bs : List ℕ) (at r m : ℕ) → at + 5 ≤ length bs → r < 8 → m < 2 ^ 32 → getD bs (at + 0) 0 < 256 → getD bs (at + 1) 0 < 256
     → getD bs (at + 2) 0 < 256
     → getD bs (at + 3) 0 < 256 → getD bs (at + 4) 0 < 256
-    → distance (window (bits bs) (8 * at + r)) (mark m)
+    → distance (window (bits bs) (8 * at + r)) (marker-bits m)
     ≡ ones (differing m 0 r (getD bs (at + 0) 0)) + ones (differing m 1 r (getD bs (at + 1) 0)) + ones (differing m 2 r (getD bs (at + 2) 0)) + ones
     (differing m 3 r (getD bs (at + 3) 0))
     + ones (differing m 4 r (getD bs (at + 4) 0))
 shares bs at r m h hr hm h0 h1 h2 h3 h4 =
-    ap (λ (l : List ℕ). distance l (mark m)) (sym (window-inside bs at 5 r h (omega arith)) ∙ ap (λ (l : List ℕ). window (bits l) r) (spelt-all bs at 5 h))
+    ap (λ (l : List ℕ). distance l (marker-bits m)) (sym (window-inside bs at 5 r h (omega arith)) ∙ ap (λ (l : List ℕ). window (bits l) r) (spelt-all bs at 5 h))
     ∙ five-shares (getD bs (at + 0) 0) (getD bs (at + 1) 0) (getD bs (at + 2) 0) (getD bs (at + 3) 0) (getD bs (at + 4) 0) m r h0 h1 h2 h3 h4 hm hr

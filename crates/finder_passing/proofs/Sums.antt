@@ -9,7 +9,7 @@ use lib.Dec.{ltb}
 use lib.Bits.{bitAnd, and-le-l}
 use lib.Count.{ones, ones-le}
 use lib.ListN.{length, getD}
-use Rattle.finder_windows.specs.Definition.{bits, mark}
+use Rattle.finder_windows.specs.Definition.{bits, marker-bits}
 use Rattle.finder_windows.proofs.Distance.{window-le}
 use Rattle.finder_columns.specs.Columns.{eight, differing, slack, entry, Columns}
 use Rattle.finder_passing.specs.Next.{away, Far}
@@ -61,18 +61,18 @@ module _ (bs : List ℕ) (m t at : ℕ) where
   lane r = 127 - t + away bs m (8 * at + r)
 
   lanes-lt : (r : ℕ) → lane r < 256
-  lanes-lt r = lane-lt t (away bs m (8 * at + r)) (window-le (bits bs) (mark m) (8 * at + r))
+  lanes-lt r = lane-lt t (away bs m (8 * at + r)) (window-le (bits bs) (marker-bits m) (8 * at + r))
 
   top-far : {d : ℕ} → d ≡ eight lane → bitAnd 0x8080808080808080 d ≡ 0x8080808080808080 → Far bs m t at (at + 1)
   top-far e h p from to =
       let in-byte = placed at p from to in
       let top = eight-tops lane lanes-lt (sym (ap (bitAnd 0x8080808080808080) e) ∙ h) (p - 8 * at) (in-byte .1) in
-      rw (in-byte .0) at (above t (away bs m (8 * at + (p - 8 * at))) (window-le (bits bs) (mark m) (8 * at + (p - 8 * at))) top)
+      rw (in-byte .0) at (above t (away bs m (8 * at + (p - 8 * at))) (window-le (bits bs) (marker-bits m) (8 * at + (p - 8 * at))) top)
 
   far-top : {d : ℕ} → d ≡ eight lane → Far bs m t at (at + 1) → bitAnd 0x8080808080808080 d ≡ 0x8080808080808080
   far-top e far =
       ap (bitAnd 0x8080808080808080) e
-      ∙ eight-set lane lanes-lt (λ r hr. omega (arith, far (8 * at + r) (omega arith) (omega arith), window-le (bits bs) (mark m) (8 * at + r)))
+      ∙ eight-set lane lanes-lt (λ r hr. omega (arith, far (8 * at + r) (omega arith) (omega arith), window-le (bits bs) (marker-bits m) (8 * at + r)))
 
 -- bytes one after the other
 pub far-none : (bs : List ℕ) (m t at : ℕ) → Far bs m t at (at + 0)

@@ -4,10 +4,10 @@ use mathlib.Core.Path.{_≡_}
 use mathlib.Core.List.{List}
 use mathlib.Core.Logic.{_⊎_}
 use lib.ListN.{length}
-use Rattle.finder_windows.specs.Definition.{bits, mark, window, distance}
+use Rattle.finder_windows.specs.Definition.{bits, marker-bits, window, distance}
 
 abbrev pub away : List ℕ → ℕ → ℕ → ℕ
-away buffer m p = distance (window (bits buffer) p) (mark m)
+away buffer m p = distance (window (bits buffer) p) (marker-bits m)
 
 -- Every window that begins in the bytes from one place to another differs from the marker in more than t bits.
 abbrev pub Far : List ℕ → ℕ → ℕ → ℕ → ℕ → Type 0

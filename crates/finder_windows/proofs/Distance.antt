@@ -11,7 +11,7 @@ use lib.ListN.{length, take, drop, length-take}
 use lib.Pow.{pow-pos, mod-pow-add}
 use lib.Bits.{bitXor, xor-block, xor-lt}
 use lib.Count.{ones, ones-cat}
-use Rattle.finder_windows.specs.Definition.{binary, bits, mark, window, distance}
+use Rattle.finder_windows.specs.Definition.{binary, bits, marker-bits, window, distance}
 use Rattle.finder_windows.proofs.Bits.{window-inside}
 
 distance-nil : (xs : List ℕ) → distance xs [] ≡ 0
@@ -94,5 +94,5 @@ distance-words w m hw hm = distance-ones 32 w m ∙ ap₂ (λ (a b : ℕ). ones 
 
 -- a window of a word that holds eight bytes of a buffer
 pub distance-inside : (bs : List ℕ) (at k w m : ℕ) → at + 8 ≤ length bs → k ≤ 32 → binary 64 w ≡ bits (take 8 (drop at bs))
-    → distance (window (binary 64 w) k) (mark m) ≡ distance (window (bits bs) (8 * at + k)) (mark m)
-distance-inside bs at k w m h hk e = ap (λ (l : List ℕ). distance l (mark m)) (ap (λ (l : List ℕ). window l k) e ∙ window-inside bs at 8 k h (omega arith))
+    → distance (window (binary 64 w) k) (marker-bits m) ≡ distance (window (bits bs) (8 * at + k)) (marker-bits m)
+distance-inside bs at k w m h hk e = ap (λ (l : List ℕ). distance l (marker-bits m)) (ap (λ (l : List ℕ). window l k) e ∙ window-inside bs at 8 k h (omega arith))

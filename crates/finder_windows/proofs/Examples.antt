@@ -2,7 +2,7 @@
 use mathlib.Core.Path.{_≡_, refl}
 use mathlib.Core.List.{List, [], _∷_, _++_}
 use Prim.Native.Nat.{ℕ}
-use Rattle.finder_windows.specs.Definition.{binary, bits, mark, distance, found, refused, first-from, find}
+use Rattle.finder_windows.specs.Definition.{binary, bits, marker-bits, distance, found, refused, first-from, find}
 
 -- 0x1a is 0001 1010, and its top bit is the first
 top-bit-first : bits (0x1a ∷ []) ≡ 0 ∷ 0 ∷ 0 ∷ 1 ∷ 1 ∷ 0 ∷ 1 ∷ 0 ∷ []
@@ -10,7 +10,7 @@ unfolding bits binary
 top-bit-first = refl
 
 -- a byte after the other, and the marker as the buffer has it
-marker-as-sent : bits (0x1a ∷ 0xcf ∷ 0xfc ∷ 0x1d ∷ []) ≡ mark 0x1acffc1d
+marker-as-sent : bits (0x1a ∷ 0xcf ∷ 0xfc ∷ 0x1d ∷ []) ≡ marker-bits 0x1acffc1d
 unfolding bits binary
 marker-as-sent = refl
 

@@ -7,7 +7,7 @@ use native.Mathlib.Omega.{arith}
 use borrow.Author.Tests.{ltb-true, ltb-false, lt-ltb, le-ltb, ne-eqb}
 use lib.Dec.{ltb, lit<}
 use lib.ListN.{length}
-use Rattle.finder_windows.specs.Definition.{bits, mark, refused, refusal, first-from, find}
+use Rattle.finder_windows.specs.Definition.{bits, marker-bits, refused, refusal, first-from, find}
 use Rattle.finder_windows.proofs.Bits.{length-bits}
 
 pub both-false : (a b : Bool) → (a || b) ≡ false → (a ≡ false) × (b ≡ false)
@@ -55,6 +55,6 @@ unfolding find
 find-refused bs m t L e h = sym (rw (← e) (rw (ne-eqb _ 0 h)))
 
 pub find-searched : (bs : List ℕ) (m t L : ℕ) → refusal bs t L ≡ 0
-    → find bs m t L ≡ first-from (bits bs) (mark m) t L (suc (length (bits bs) - (L + 32))) 0
+    → find bs m t L ≡ first-from (bits bs) (marker-bits m) t L (suc (length (bits bs) - (L + 32))) 0
 unfolding find
 find-searched bs m t L e = rw e

@@ -8,15 +8,15 @@ use native.Mathlib.Omega.{arith}
 use borrow.Author.Tests.{lt-ltb, leb-true, le-leb, eqb-true, eqb-false}
 use lib.Dec.{ltb, eqb}
 use lib.ListN.{length}
-use Rattle.finder_windows.specs.Definition.{bits, mark, window, distance, Answer, found, refused, stands, refusal, barred, first-from, find}
+use Rattle.finder_windows.specs.Definition.{bits, marker-bits, window, distance, Answer, found, refused, stands, refusal, barred, first-from, find}
 use Rattle.finder_windows.proofs.Positions.{none}
 use Rattle.finder_windows.proofs.Refusals.{admitted, find-refused, find-searched}
 
 -- The marker is met at p and again a frame later: both windows are inside the buffer, and each differs from the marker in at most t bits.
 pub record Met (buffer : List ℕ) (marker t L p : ℕ) : Type 0 where
   pub inside : p + L + 32 ≤ length (bits buffer)
-  pub here : distance (window (bits buffer) p) (mark marker) ≤ t
-  pub again : distance (window (bits buffer) (p + L)) (mark marker) ≤ t
+  pub here : distance (window (bits buffer) p) (marker-bits marker) ≤ t
+  pub again : distance (window (bits buffer) (p + L)) (marker-bits marker) ≤ t
 
 -- what a search among n positions from p on has found
 record Reached (stream m : List ℕ) (t L n p q d f : ℕ) : Type 0 where
@@ -84,12 +84,12 @@ at-most-ten false false true e = omega arith
 at-most-ten false false false e = omega arith
 
 module _ (buffer : List ℕ) (marker t L : ℕ) where
-  stands-met : (p : ℕ) → p + L + 32 ≤ length (bits buffer) → stands (bits buffer) (mark marker) t L p ≡ true → Met buffer marker t L p
+  stands-met : (p : ℕ) → p + L + 32 ≤ length (bits buffer) → stands (bits buffer) (marker-bits marker) t L p ≡ true → Met buffer marker t L p
   stands-met p h e =
       let tests = both-true _ _ e in
       record { inside = h; here = leb-true _ _ (tests .0); again = leb-true _ _ (tests .1) }
 
-  met-stands : (p : ℕ) → Met buffer marker t L p → stands (bits buffer) (mark marker) t L p ≡ true
+  met-stands : (p : ℕ) → Met buffer marker t L p → stands (bits buffer) (marker-bits marker) t L p ≡ true
   met-stands p h = rw (le-leb _ _ (h .here), le-leb _ _ (h .again))
 
   -- the positions at which both windows are inside the buffer
@@ -113,18 +113,18 @@ module _ (buffer : List ℕ) (marker t L : ℕ) where
     judged : refusal buffer t L ≡ 0
     judged = judged-so (found p d e) answer (λ other. let z : _≡_ {A = ℕ} 0 1 = cc in omega arith)
 
-    search : Reached (bits buffer) (mark marker) t L positions 0 p d e
+    search : Reached (bits buffer) (marker-bits marker) t L positions 0 p d e
     unfolding positions
-    search = reached (bits buffer) (mark marker) t L positions 0 p d e (sym (find-searched buffer marker t L judged) ∙ answer)
+    search = reached (bits buffer) (marker-bits marker) t L positions 0 p d e (sym (find-searched buffer marker t L judged) ∙ answer)
 
     pub met : Met buffer marker t L p
     unfolding positions
     met = stands-met p (omega (arith, search .to, admitted buffer t L judged .room)) (search .at)
 
-    pub first-distance : d ≡ distance (window (bits buffer) p) (mark marker)
+    pub first-distance : d ≡ distance (window (bits buffer) p) (marker-bits marker)
     first-distance = search .first
 
-    pub second-distance : e ≡ distance (window (bits buffer) (p + L)) (mark marker)
+    pub second-distance : e ≡ distance (window (bits buffer) (p + L)) (marker-bits marker)
     second-distance = search .second
 
     pub no-smaller : (q : ℕ) → q < p → Met buffer marker t L q → ⊥
@@ -137,22 +137,22 @@ module _ (buffer : List ℕ) (marker t L : ℕ) where
       let judged = judged-so (refused 11) answer not-eleven in
       let search = sym (find-searched buffer marker t L judged) ∙ answer in
       true≢false (sym (met-stands q m)
-      ∙ passed (bits buffer) (mark marker) t L positions 0 11 search q zero-le (omega (arith, m .inside)))
+      ∙ passed (bits buffer) (marker-bits marker) t L positions 0 11 search q zero-le (omega (arith, m .inside)))
 
   -- and everywhere that 8, 9 and 10 are not
   pub none-given : refusal buffer t L ≡ 0 → ((q : ℕ) → Met buffer marker t L q → ⊥) → find buffer marker t L ≡ refused 11
   unfolding positions
   none-given judged h =
       find-searched buffer marker t L judged
-      ∙ none (bits buffer) (mark marker) t L positions 0 (λ k l. rw (zero-add k) (at k l (stands (bits buffer) (mark marker) t L k) refl))
+      ∙ none (bits buffer) (marker-bits marker) t L positions 0 (λ k l. rw (zero-add k) (at k l (stands (bits buffer) (marker-bits marker) t L k) refl))
     where
-      at : (k : ℕ) → k < positions → (b : Bool) → stands (bits buffer) (mark marker) t L k ≡ b → stands (bits buffer) (mark marker) t L k ≡ false
+      at : (k : ℕ) → k < positions → (b : Bool) → stands (bits buffer) (marker-bits marker) t L k ≡ b → stands (bits buffer) (marker-bits marker) t L k ≡ false
       at k l true s = absurd (h k (stands-met k (omega (arith, admitted buffer t L judged .room)) s))
       at k l false s = s
 
   -- A marker that stands only once is never reported: where no window within the tolerance has another a frame later, the answer is 11.
   pub once-is-never-reported : refusal buffer t L ≡ 0
-      → ((p : ℕ) → distance (window (bits buffer) p) (mark marker) ≤ t → t < distance (window (bits buffer) (p + L)) (mark marker))
+      → ((p : ℕ) → distance (window (bits buffer) p) (marker-bits marker) ≤ t → t < distance (window (bits buffer) (p + L)) (marker-bits marker))
       → find buffer marker t L ≡ refused 11
   once-is-never-reported judged h = none-given judged (λ q m. omega (arith, h q (m .here), m .again))
 

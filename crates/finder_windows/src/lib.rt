@@ -5,7 +5,7 @@ ghost use mathlib.Core.Path.{_≡_};
 ghost use mathlib.Core.Bool.{cond, _&&_};
 ghost use lib.Dec.{ltb, leb};
 ghost use lib.ListN as List;
-ghost use Rattle.finder_windows.specs.Definition.{binary, bits, mark, distance, found, refused, refusal, barred};
+ghost use Rattle.finder_windows.specs.Definition.{binary, bits, marker-bits, distance, found, refused, refusal, barred};
 ghost use Rattle.finder_windows.specs.Answer.{answer-of};
 
 // "tolerance above 8"
@@ -35,7 +35,7 @@ pub fn wide(byte: u8) -> u64
 
 // In how many bits a word differs from the marker, in the form that document 01 names.
 pub fn apart(seen: u32, marker: u32) -> u32
-    ensures { λ r. ⌜ r ≡ distance (binary 32 seen) (mark marker) ⌝ }
+    ensures { λ r. ⌜ r ≡ distance (binary 32 seen) (marker-bits marker) ⌝ }
 {
     u32::count_ones(seen ^ marker)
 }

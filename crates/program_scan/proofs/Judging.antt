@@ -9,7 +9,7 @@ use native.Mathlib.Omega.{arith}
 use borrow.Author.Tests.{lt-ltb, le-ltb, leb-true, leb-false}
 use lib.Dec.{leb}
 use lib.ListN.{length, getD}
-use Rattle.finder_windows.specs.Definition.{bits, mark, window, distance}
+use Rattle.finder_windows.specs.Definition.{bits, marker-bits, window, distance}
 use Rattle.finder_windows.proofs.Distance.{window-le}
 use Rattle.finder_distances.specs.Windows.{after, Laid}
 use Rattle.finder_distances.proofs.Numbers.{at-row}
@@ -91,14 +91,14 @@ module _ (t : ℕ) (small : t ≤ 8) where
 module _ (bs first second codes : List ℕ) (p m t L : ℕ) (small : t ≤ 8) (here : Laid bs p m first 256) (later : Laid bs (p + L) m second 256)
     (judged : (i : ℕ) → i < 256 → getD codes i 0 ≡ coded (getD first i 0) (getD second i 0) t) where
   each-is : (i : ℕ) → i < 256 → getD codes i 0
-      ≡ coded (distance (window (bits bs) (p + after i)) (mark m)) (distance (window (bits bs) (p + L + after i)) (mark m)) t
+      ≡ coded (distance (window (bits bs) (p + after i)) (marker-bits m)) (distance (window (bits bs) (p + L + after i)) (marker-bits m)) t
   each-is i h = judged i h ∙ ap₂ (λ (d e : ℕ). coded d e t) (here .1 i h) (later .1 i h)
 
   pub plains : (i : ℕ) → i < 256 → Plain (getD codes i 0)
-  plains i h = rw (each-is i h) (plain t small _ _ (window-le (bits bs) (mark m) (p + after i)) (window-le (bits bs) (mark m) (p + L + after i)))
+  plains i h = rw (each-is i h) (plain t small _ _ (window-le (bits bs) (marker-bits m) (p + after i)) (window-le (bits bs) (marker-bits m) (p + L + after i)))
 
-  pub meetings-are : (k N : ℕ) → k + p ≡ N → lines (shift k (all-from (bits bs) (mark m) t L 256 p)) ≡ lines (all-told codes N 32)
-  meetings-are k N e = ap lines (sym (many-are t small (bits bs) (mark m) L k p codes each-is N e))
+  pub meetings-are : (k N : ℕ) → k + p ≡ N → lines (shift k (all-from (bits bs) (marker-bits m) t L 256 p)) ≡ lines (all-told codes N 32)
+  meetings-are k N e = ap lines (sym (many-are t small (bits bs) (marker-bits m) L k p codes each-is N e))
 
 pub few : (bs away : List ℕ) (p m : ℕ) → Laid bs p m away 256 → (i : ℕ) → i < 256 → getD away i 0 ≤ 32
-few bs away p m laid i h = rw (laid .1 i h) (window-le (bits bs) (mark m) (p + after i))
+few bs away p m laid i h = rw (laid .1 i h) (window-le (bits bs) (marker-bits m) (p + after i))

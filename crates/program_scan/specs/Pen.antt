@@ -8,7 +8,7 @@ use lib.ListN.{length, take, getD}
 use Rattle.program_digits.specs.Codes.{codes}
 use Rattle.program_digits.specs.Digits.{digits}
 use Rattle.program_digits.specs.Put.{Wrote}
-use Rattle.finder_windows.specs.Definition.{bits, mark}
+use Rattle.finder_windows.specs.Definition.{bits, marker-bits}
 use Rattle.finder_windows.specs.declared.Answer.{Answer}
 use Rattle.capture_meetings.specs.Meetings.{Meeting, met, all-from, shift}
 use Rattle.program_scan.specs.Lines.{lines}
@@ -65,10 +65,10 @@ Sought s m t L at end (Answer.Found p d e) = all-from s m t L (p + 1 - at) at �
 Sought s m t L at end (Answer.Refused n) = all-from s m t L (end - at) at ≡ []
 
 -- The lines of the meetings from a position up to another were put into a block, and nothing else was changed. Short of the end, the block has no room for what 256 positions may take.
-pub record Put-to (block bs : List ℕ) (from end m t L base : ℕ) (left : List ℕ) (held at : ℕ) : Type 0 where
+pub record Put-to (block bs : List ℕ) (from end m t L base : ℕ) (left : List ℕ) (used at : ℕ) : Type 0 where
   pub forward : from ≤ at
   pub inside : at ≤ end
-  pub wrote : Wrote block 0 (lines (shift base (all-from (bits bs) (mark m) t L (at - from) from))) left held
-  pub exact : length (lines (shift base (all-from (bits bs) (mark m) t L (at - from) from))) ≡ held
-  pub fits : held ≤ length block
-  pub full : at < end → (length block < held + 11265) × (held ≡ 0 → length block < 45)
+  pub wrote : Wrote block 0 (lines (shift base (all-from (bits bs) (marker-bits m) t L (at - from) from))) left used
+  pub exact : length (lines (shift base (all-from (bits bs) (marker-bits m) t L (at - from) from))) ≡ used
+  pub fits : used ≤ length block
+  pub full : at < end → (length block < used + 11265) × (used ≡ 0 → length block < 45)

@@ -8,7 +8,7 @@ ghost use lib.Seq.{paste};
 ghost use Rattle.program_digits.specs.Digits.{digits};
 ghost use Rattle.program_digits.specs.Put.{Wrote, Filled};
 ghost use Rattle.capture_meetings.specs.Meetings.{met, all-from, shift};
-ghost use Rattle.finder_windows.specs.Definition.{bits, mark};
+ghost use Rattle.finder_windows.specs.Definition.{bits, marker-bits};
 ghost use Rattle.program_scan.specs.Lines.{line, lines, last-line};
 ghost use Rattle.program_scan.specs.Pen.{little, Ready, told, tolds, all-told, Plain, coded, Within, Sought, Put-to};
 ghost use Rattle.finder_columns.specs.Columns.{Columns};
@@ -37,7 +37,7 @@ const FAR: u32 = 16777216;
 
 // Where the next line goes, how many digits its position has, and its last digit with what follows that.
 struct Pen {
-    held: usize,
+    used: usize,
     digits: usize,
     tail: u64,
 }
@@ -67,12 +67,12 @@ fn put_word(block: &mut [u8], at: usize, word: u64, count: usize)
 fn put_line(block: &mut [u8], pen: Pen, text: &[u8], code: u32) -> usize
     requires { ⌜ pen .digits ≤ 20 ⌝ }
     requires { ⌜ 48 ≤ length (now text) ⌝ }
-    requires { ⌜ pen .held + 44 ≤ length (now block) ⌝ }
+    requires { ⌜ pen .used + 44 ≤ length (now block) ⌝ }
     requires { ⌜ code < 16777216 ⌝ }
-    ensures { λ r. ⌜ ((N d e : ℕ) → Ready (now (text .entry)) (pen .digits) (pen .tail) N → d < 10 → e < 10 → code ≡ d + 65536 * e → Wrote (now (block .entry)) (pen .held) (line (met N d e)) (now (block .exit)) r) ⌝ }
-    ensures { λ r. ⌜ r ≤ pen .held + 44 ⌝ }
+    ensures { λ r. ⌜ ((N d e : ℕ) → Ready (now (text .entry)) (pen .digits) (pen .tail) N → d < 10 → e < 10 → code ≡ d + 65536 * e → Wrote (now (block .entry)) (pen .used) (line (met N d e)) (now (block .exit)) r) ⌝ }
+    ensures { λ r. ⌜ r ≤ pen .used + 44 ⌝ }
 {
-    let at = pen.held;
+    let at = pen.used;
     let digits = pen.digits;
     copy(block, at, text, 0, 24);
     copy(block, at + digits, text, digits, 8);
@@ -115,28 +115,28 @@ fn step(text: &mut [u8], pen: Pen, number: u64) -> Pen
     requires { ⌜ Ready (now text) (pen .digits) (pen .tail) number ⌝ }
     requires { ⌜ number < 2 ^ 63 ⌝ }
     ensures { λ r. ⌜ Ready (now (text .exit)) (r .digits) (r .tail) (number + 1) ⌝ }
-    ensures { λ r. ⌜ r .held ≡ pen .held ⌝ }
+    ensures { λ r. ⌜ r .used ≡ pen .used ⌝ }
 {
-    let held = pen.held;
+    let used = pen.used;
     let digits = pen.digits;
     let tail = pen.tail;
     if tail % 256 != 57 {
         return Pen {
-            held,
+            used,
             digits,
             tail: tail + 1,
         };
     }
     if carry(text, 8 + digits) {
         return Pen {
-            held,
+            used,
             digits,
             tail: TAIL,
         };
     }
     let digits = lay(text, number + 1);
     Pen {
-        held,
+        used,
         digits,
         tail: TAIL,
     }
@@ -146,19 +146,19 @@ fn step(text: &mut [u8], pen: Pen, number: u64) -> Pen
 fn put_position(block: &mut [u8], text: &mut [u8], pen: Pen, code: u32, number: u64) -> Pen
     requires { ⌜ Ready (now text) (pen .digits) (pen .tail) number ⌝ }
     requires { ⌜ number < 2 ^ 63 ⌝ }
-    requires { ⌜ pen .held + 44 ≤ length (now block) ⌝ }
+    requires { ⌜ pen .used + 44 ≤ length (now block) ⌝ }
     requires { ⌜ Plain code ⌝ }
     ensures { λ r. ⌜ Ready (now (text .exit)) (r .digits) (r .tail) (number + 1) ⌝ }
-    ensures { λ r. ⌜ Wrote (now (block .entry)) (pen .held) (lines (told number code)) (now (block .exit)) (r .held) ⌝ }
-    ensures { λ r. ⌜ r .held ≤ pen .held + 44 ⌝ }
+    ensures { λ r. ⌜ Wrote (now (block .entry)) (pen .used) (lines (told number code)) (now (block .exit)) (r .used) ⌝ }
+    ensures { λ r. ⌜ r .used ≤ pen .used + 44 ⌝ }
 {
-    let mut held = pen.held;
+    let mut used = pen.used;
     let digits = pen.digits;
     let tail = pen.tail;
     if code < FAR {
-        held = put_line(block, pen, text, code);
+        used = put_line(block, pen, text, code);
     }
-    step(text, Pen { held, digits, tail }, number)
+    step(text, Pen { used, digits, tail }, number)
 }
 
 // The eight positions of a byte.
@@ -172,13 +172,13 @@ fn put_byte(
 ) -> Pen
     requires { ⌜ Ready (now text) (pen .digits) (pen .tail) number ⌝ }
     requires { ⌜ number + 8 < 2 ^ 63 ⌝ }
-    requires { ⌜ pen .held + 352 ≤ length (now block) ⌝ }
+    requires { ⌜ pen .used + 352 ≤ length (now block) ⌝ }
     requires { ⌜ from < 32 ⌝ }
     requires { ⌜ length (now codes) ≡ 256 ⌝ }
     requires { ⌜ ((i : ℕ) → i < 256 → Plain (getD (now codes) i 0)) ⌝ }
     ensures { λ r. ⌜ Ready (now (text .exit)) (r .digits) (r .tail) (number + 8) ⌝ }
-    ensures { λ r. ⌜ Wrote (now (block .entry)) (pen .held) (lines (tolds (now (codes .entry)) from number 8)) (now (block .exit)) (r .held) ⌝ }
-    ensures { λ r. ⌜ r .held ≤ pen .held + 352 ⌝ }
+    ensures { λ r. ⌜ Wrote (now (block .entry)) (pen .used) (lines (tolds (now (codes .entry)) from number 8)) (now (block .exit)) (r .used) ⌝ }
+    ensures { λ r. ⌜ r .used ≤ pen .used + 352 ⌝ }
 {
     let mut pen = pen;
     let mut i = from;
@@ -193,12 +193,12 @@ fn put_byte(
 fn put_many(block: &mut [u8], text: &mut [u8], pen: Pen, codes: &[u32], number: u64) -> Pen
     requires { ⌜ Ready (now text) (pen .digits) (pen .tail) number ⌝ }
     requires { ⌜ number + 256 < 2 ^ 63 ⌝ }
-    requires { ⌜ pen .held + 11264 ≤ length (now block) ⌝ }
+    requires { ⌜ pen .used + 11264 ≤ length (now block) ⌝ }
     requires { ⌜ length (now codes) ≡ 256 ⌝ }
     requires { ⌜ ((i : ℕ) → i < 256 → Plain (getD (now codes) i 0)) ⌝ }
     ensures { λ r. ⌜ Ready (now (text .exit)) (r .digits) (r .tail) (number + 256) ⌝ }
-    ensures { λ r. ⌜ Wrote (now (block .entry)) (pen .held) (lines (all-told (now (codes .entry)) number 32)) (now (block .exit)) (r .held) ⌝ }
-    ensures { λ r. ⌜ r .held ≤ pen .held + 11264 ⌝ }
+    ensures { λ r. ⌜ Wrote (now (block .entry)) (pen .used) (lines (all-told (now (codes .entry)) number 32)) (now (block .exit)) (r .used) ⌝ }
+    ensures { λ r. ⌜ r .used ≤ pen .used + 11264 ⌝ }
 {
     let mut pen = pen;
     for j in 0..32 {
@@ -234,14 +234,14 @@ fn judge(first: &[u32], second: &mut [u32], tolerance: u32)
 }
 
 // The text and the pen for a position's line.
-fn begin(text: &mut [u8], held: usize, number: u64) -> Pen
+fn begin(text: &mut [u8], used: usize, number: u64) -> Pen
     requires { ⌜ 48 ≤ length (now text) ⌝ }
     ensures { λ r. ⌜ Ready (now (text .exit)) (r .digits) (r .tail) number ⌝ }
-    ensures { λ r. ⌜ r .held ≡ held ⌝ }
+    ensures { λ r. ⌜ r .used ≡ used ⌝ }
 {
     let digits = lay(text, number);
     Pen {
-        held,
+        used,
         digits,
         tail: TAIL + number % 10,
     }
@@ -263,14 +263,14 @@ fn many(
 ) -> Pen
     requires { ⌜ Ready (now text) (pen .digits) (pen .tail) number ⌝ }
     requires { ⌜ number + 256 < 2 ^ 63 ⌝ }
-    requires { ⌜ pen .held + 11264 ≤ length (now block) ⌝ }
+    requires { ⌜ pen .used + 11264 ≤ length (now block) ⌝ }
     requires { ⌜ (length (now first) ≡ 256) × (length (now second) ≡ 256) ⌝ }
     requires { ⌜ at + frame + 296 ≤ 8 * length (now buffer) ⌝ }
     requires { ⌜ 8 * length (now buffer) < 2 ^ 64 ⌝ }
     requires { ⌜ tolerance ≤ 8 ⌝ }
     ensures { λ r. ⌜ Ready (now (text .exit)) (r .digits) (r .tail) (number + 256) ⌝ }
-    ensures { λ r. ⌜ ((k : ℕ) → k + at ≡ number → Wrote (now (block .entry)) (pen .held) (lines (shift k (all-from (bits (now (buffer .entry))) (mark marker) tolerance frame 256 at))) (now (block .exit)) (r .held)) ⌝ }
-    ensures { λ r. ⌜ r .held ≤ pen .held + 11264 ⌝ }
+    ensures { λ r. ⌜ ((k : ℕ) → k + at ≡ number → Wrote (now (block .entry)) (pen .used) (lines (shift k (all-from (bits (now (buffer .entry))) (marker-bits marker) tolerance frame 256 at))) (now (block .exit)) (r .used)) ⌝ }
+    ensures { λ r. ⌜ r .used ≤ pen .used + 11264 ⌝ }
     ensures { λ r. ⌜ (length (now (first .exit)) ≡ 256) × (length (now (second .exit)) ≡ 256) ⌝ }
 {
     finder_distances::distances(buffer, at, marker, first);
@@ -280,35 +280,35 @@ fn many(
 }
 
 // The line of one position.
-fn one(block: &mut [u8], text: &mut [u8], held: usize, number: u64, first: u32, second: u32) -> Pen
+fn one(block: &mut [u8], text: &mut [u8], used: usize, number: u64, first: u32, second: u32) -> Pen
     requires { ⌜ 48 ≤ length (now text) ⌝ }
     requires { ⌜ number < 2 ^ 63 ⌝ }
-    requires { ⌜ held + 44 ≤ length (now block) ⌝ }
+    requires { ⌜ used + 44 ≤ length (now block) ⌝ }
     requires { ⌜ (first < 10) × (second < 10) ⌝ }
     ensures { λ r. ⌜ Ready (now (text .exit)) (r .digits) (r .tail) (number + 1) ⌝ }
-    ensures { λ r. ⌜ Wrote (now (block .entry)) held (lines (met number first second ∷ [])) (now (block .exit)) (r .held) ⌝ }
-    ensures { λ r. ⌜ r .held ≤ held + 44 ⌝ }
+    ensures { λ r. ⌜ Wrote (now (block .entry)) used (lines (met number first second ∷ [])) (now (block .exit)) (r .used) ⌝ }
+    ensures { λ r. ⌜ r .used ≤ used + 44 ⌝ }
 {
-    let pen = begin(text, held, number);
-    let held = put_line(block, pen, text, first + 65536 * second);
-    begin(text, held, number + 1)
+    let pen = begin(text, used, number);
+    let used = put_line(block, pen, text, first + 65536 * second);
+    begin(text, used, number + 1)
 }
 
 // How far lines were put, and how many bytes they have.
 struct Reached {
-    held: usize,
+    used: usize,
     at: usize,
 }
 
 // Whether no more is put into a block that has so much room left.
-fn is_full(room: usize, held: usize) -> bool
-    ensures { λ r. ⌜ (r ≡ true → (room < 11265) × (held ≡ 0 → room < 45)) ⌝ }
+fn is_full(room: usize, used: usize) -> bool
+    ensures { λ r. ⌜ (r ≡ true → (room < 11265) × (used ≡ 0 → room < 45)) ⌝ }
     ensures { λ r. ⌜ (r ≡ false → 45 ≤ room) ⌝ }
 {
     if room < ONE {
         return true;
     }
-    if held == 0 {
+    if used == 0 {
         return false;
     }
     room < MANY
@@ -330,7 +330,7 @@ fn sought<'a>(
     requires { ⌜ length (now buffer) ≤ 1152921504606846976 ⌝ }
     requires { ⌜ tolerance ≤ 8 ⌝ }
     ensures { λ r. ⌜ Within at end r ⌝ }
-    ensures { λ r. ⌜ (Columns marker tolerance (now (table .entry)) → Sought (bits (now (buffer .entry))) (mark marker) tolerance frame at end r) ⌝ }
+    ensures { λ r. ⌜ (Columns marker tolerance (now (table .entry)) → Sought (bits (now (buffer .entry))) (marker-bits marker) tolerance frame at end r) ⌝ }
 {
     let Answer::Found(p, first, second) = finder::next(buffer, at, table, marker, tolerance, frame)
     else {
@@ -375,18 +375,18 @@ fn walk<'a>(
     requires { ⌜ tolerance ≤ 8 ⌝ }
     requires { ⌜ length (now text) ≡ 48 ⌝ }
     requires { ⌜ (length (now first) ≡ 256) × (length (now second) ≡ 256) ⌝ }
-    requires { ⌜ pen .held ≡ 0 ⌝ }
-    ensures { λ r. ⌜ (from ≤ r .at) × (r .at ≤ end) × (r .held ≤ length (now (block .entry))) ⌝ }
-    ensures { λ r. ⌜ (Columns marker tolerance (now (table .entry)) → Put-to (now (block .entry)) (now (buffer .entry)) from end marker tolerance frame base (now (block .exit)) (r .held) (r .at)) ⌝ }
+    requires { ⌜ pen .used ≡ 0 ⌝ }
+    ensures { λ r. ⌜ (from ≤ r .at) × (r .at ≤ end) × (r .used ≤ length (now (block .entry))) ⌝ }
+    ensures { λ r. ⌜ (Columns marker tolerance (now (table .entry)) → Put-to (now (block .entry)) (now (buffer .entry)) from end marker tolerance frame base (now (block .exit)) (r .used) (r .at)) ⌝ }
 {
     let mut pen = pen;
     let mut at = from;
     let mut dense = false;
     while at < end {
-        let held = pen.held;
-        let room = block.len() - held;
-        if is_full(room, held) {
-            return Reached { held, at };
+        let used = pen.used;
+        let room = block.len() - used;
+        if is_full(room, used) {
+            return Reached { used, at };
         }
         if dense & (room >= MANY) & (end - at >= 288) {
             pen = many(
@@ -402,20 +402,20 @@ fn walk<'a>(
                 frame as usize,
                 base + at as u64,
             );
-            dense = pen.held > held;
+            dense = pen.used > used;
             at += 256;
         } else {
             let Answer::Found(p, a, b) = sought(buffer, at, end, table, marker, tolerance, frame)
             else {
-                return Reached { held, at: end };
+                return Reached { used, at: end };
             };
-            pen = one(block, text, held, base + p as u64, a, b);
+            pen = one(block, text, used, base + p as u64, a, b);
             dense = p - at < 32;
             at = p + 1;
         }
     }
     Reached {
-        held: pen.held,
+        used: pen.used,
         at: end,
     }
 }
@@ -437,14 +437,14 @@ fn fill<'a>(
     requires { ⌜ end + frame + 31 ≤ 8 * length (now buffer) ⌝ }
     requires { ⌜ base + 8 * length (now buffer) ≤ 2 ^ 63 ⌝ }
     requires { ⌜ tolerance ≤ 8 ⌝ }
-    ensures { λ r. ⌜ (from ≤ r .at) × (r .at ≤ end) × (r .held ≤ length (now (block .entry))) ⌝ }
-    ensures { λ r. ⌜ (Columns marker tolerance (now (table .entry)) → Put-to (now (block .entry)) (now (buffer .entry)) from end marker tolerance frame base (now (block .exit)) (r .held) (r .at)) ⌝ }
+    ensures { λ r. ⌜ (from ≤ r .at) × (r .at ≤ end) × (r .used ≤ length (now (block .entry))) ⌝ }
+    ensures { λ r. ⌜ (Columns marker tolerance (now (table .entry)) → Put-to (now (block .entry)) (now (buffer .entry)) from end marker tolerance frame base (now (block .exit)) (r .used) (r .at)) ⌝ }
 {
     let mut text = [0u8; 48];
     let mut first = [0u32; 256];
     let mut second = [0u32; 256];
     let pen = Pen {
-        held: 0,
+        used: 0,
         digits: 0,
         tail: 0,
     };
@@ -467,7 +467,7 @@ fn fill<'a>(
 
 // How far lines were put: how many bytes they have, whether nothing more is met in what has come, and the scan after them.
 pub struct Put {
-    pub held: usize,
+    pub used: usize,
     pub done: bool,
     pub scan: Scan,
 }
@@ -517,11 +517,11 @@ fn is_shut(room: usize, scan: Scan, tolerance: u32, frame: u32, from: u64) -> bo
 }
 
 // The scan at another bit of the window.
-fn put_to(held: usize, done: bool, scan: Scan, from: usize) -> Put
-    ensures { λ r. ⌜ r ≡ record { held = held; done = done; scan = record { before = scan .before; filled = scan .filled; from = from } } ⌝ }
+fn put_to(used: usize, done: bool, scan: Scan, from: usize) -> Put
+    ensures { λ r. ⌜ r ≡ record { used = used; done = done; scan = record { before = scan .before; filled = scan .filled; from = from } } ⌝ }
 {
     Put {
-        held,
+        used,
         done,
         scan: Scan {
             before: scan.before,
@@ -544,7 +544,7 @@ pub fn put_lines<'a>(
     from: u64,
     count: u64,
 ) -> Put
-    ensures { λ r. ⌜ r .held ≤ length (now (block .entry)) ⌝ }
+    ensures { λ r. ⌜ r .used ≤ length (now (block .entry)) ⌝ }
     ensures { λ r. ⌜ ((X : List ℕ) → Stands frame X (now (window .entry)) scan → tolerance ≤ 8 → Columns marker tolerance (now (table .entry)) → from + length X ≤ 1152921504606846976 → Lined marker tolerance frame from count X (now (window .entry)) scan (now (block .entry)) (now (block .exit)) r) ⌝ }
 {
     let before = scan.before;
@@ -569,12 +569,12 @@ pub fn put_lines<'a>(
         frame,
         8 * (from + before),
     );
-    let held = put.held;
+    let used = put.used;
     let at = put.at;
     if at == end {
-        return put_to(held, true, scan, positions);
+        return put_to(used, true, scan, positions);
     }
-    put_to(held, false, scan, at)
+    put_to(used, false, scan, at)
 }
 
 // The last line: what the scan ends with.

@@ -47,12 +47,12 @@ struct Course {
     state: u8,
 }
 
-fn flushed(out: &[u8], held: usize) -> bool {
-    if out.len() < held {
+fn flushed(out: &[u8], used: usize) -> bool {
+    if out.len() < used {
         return false;
     }
     let start = 0;
-    if !io::write_all(STDOUT_FILENO, &out[start..held]) {
+    if !io::write_all(STDOUT_FILENO, &out[start..used]) {
         os::fail(b"scan: standard output");
         return false;
     }
@@ -205,14 +205,14 @@ fn put_meetings<'a>(
             task.from,
             task.count,
         );
-        let held = put.held;
+        let used = put.used;
         let next = put.scan;
-        if !flushed(out, held) {
+        if !flushed(out, used) {
             return at_state(course, FAILED);
         }
         course = Course {
             scan: next,
-            met: course.met | (held > 0),
+            met: course.met | (used > 0),
             state: GOES_ON,
         };
         if put.done {

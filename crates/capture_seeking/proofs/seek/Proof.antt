@@ -6,7 +6,7 @@ use native.Mathlib.Omega.{arith}
 use borrow.Author.Needs.{needs}
 use lib.ListN.{length, take}
 use lib.Seq.{length-take-le}
-use Rattle.finder_windows.specs.Definition.{bits, mark, found, first-from}
+use Rattle.finder_windows.specs.Definition.{bits, marker-bits, found, first-from}
 use Rattle.finder_columns.specs.Columns.{Columns}
 use Rattle.capture_history.proofs.Standing.{head-of, told-met, told-more, told-end}
 use Rattle.capture_seeking.proofs.seek.Statement.{statement}
@@ -52,7 +52,7 @@ heard : (c : tie.After-known-told)
     → let given = c .before .before .before .before .before .before .before .before .before .before .args in
     64 ≤ given .frame → given .scan .from + (given .frame + 31) ≤ 8 * length (take (given .scan .filled) (given .window .now))
     → Columns (given .marker) (given .tolerance) (given .table .now)
-    → first-from (bits (take (given .scan .filled) (given .window .now))) (mark (given .marker)) (given .tolerance) (given .frame)
+    → first-from (bits (take (given .scan .filled) (given .window .now))) (marker-bits (given .marker)) (given .tolerance) (given .frame)
     (8 * length (take (given .scan .filled) (given .window .now)) - (given .frame + 31) - given .scan .from) (given .scan .from)
     ≡ found (c .before .p .given .0 .0) (c .before .p .given .0 .1 .0) (c .before .p .given .0 .1 .1 .0)
 heard c frame room made =
@@ -66,7 +66,7 @@ returns-5 c = λ X s made.
     let size = length-take-le (given .scan .filled) (given .window .now) (omega arith) in
     absurd (omega (
       arith,
-      head-of (mark (given .marker)) (given .tolerance) (given .frame) _ _ _ _ _ _
+      head-of (marker-bits (given .marker)) (given .tolerance) (given .frame) _ _ _ _ _ _
           (heard (c .before) (s .frame) (omega (arith, s .all, s .reached)) made) .high,
     ))
 

@@ -4,7 +4,7 @@ use mathlib.Core.Path.{_≡_, refl, sym, _∙_}
 use mathlib.Core.Logic.{⊎-elim}
 use native.Mathlib.Omega.{arith}
 use borrow.Author.Needs.{needs}
-use Rattle.finder_windows.specs.Definition.{binary, bits, mark, window, distance, first-from}
+use Rattle.finder_windows.specs.Definition.{binary, bits, marker-bits, window, distance, first-from}
 use Rattle.finder_windows.proofs.Distance.{distance-inside}
 use Rattle.finder_windows.proofs.Positions.{far, none, one, among-the-first, passed}
 use Rattle.finder.proofs.among.Statement.{statement}
@@ -13,8 +13,8 @@ use Rattle.finder.proofs.among.Tie as tie
 abbrev Inv-loop : tie.InvT-loop
 Inv-loop buffer at skip count marker tolerance frame here end later start k₀ k =
     (k ≤ count)
-    × (first-from (bits buffer) (mark marker) tolerance frame (count - skip) (8 * at + skip)
-    ≡ first-from (bits buffer) (mark marker) tolerance frame (count - k) (8 * at + k))
+    × (first-from (bits buffer) (marker-bits marker) tolerance frame (count - skip) (8 * at + skip)
+    ≡ first-from (bits buffer) (marker-bits marker) tolerance frame (count - k) (8 * at + k))
 
 abbrev μ-loop : tie.MeasureT-loop
 μ-loop buffer at skip count marker tolerance frame here end later start k₀ k = count - k
@@ -85,7 +85,7 @@ enum-told-2 c = search needs
 -- the distances that are taken from the two words are those in the buffer
 first : (c : tie.After-apart Inv-loop μ-loop)
     → let given = c .before .before .before .before .before .before .args in
-    c .apart .result ≡ distance (window (bits (given .buffer .now)) (8 * given .at + c .before .before .loop .k)) (mark (given .marker))
+    c .apart .result ≡ distance (window (bits (given .buffer .now)) (8 * given .at + c .before .before .loop .k)) (marker-bits (given .marker))
 first c =
     let given = c .before .before .before .before .before .before .args in
     let word = c .before .before .before .before .word-at in
@@ -96,8 +96,8 @@ second : (c : tie.After-apart Inv-loop μ-loop) {d : ℕ}
     → let given = c .before .before .before .before .before .before .args in
     let end = (8 * given .at + given .count + given .frame + 30) / 8 in
     d ≡ distance (window (binary 64 (c .before .before .before .word-at2 .result))
-    (8 * given .at + given .frame + 56 - 8 * end + c .before .before .loop .k)) (mark (given .marker))
-    → d ≡ distance (window (bits (given .buffer .now)) (8 * given .at + c .before .before .loop .k + given .frame)) (mark (given .marker))
+    (8 * given .at + given .frame + 56 - 8 * end + c .before .before .loop .k)) (marker-bits (given .marker))
+    → d ≡ distance (window (bits (given .buffer .now)) (8 * given .at + c .before .before .loop .k + given .frame)) (marker-bits (given .marker))
 second c e =
     let given = c .before .before .before .before .before .before .args in
     let word = c .before .before .before .word-at2 in
@@ -113,7 +113,7 @@ returns c =
     let apart = c .before .before .before .before .before in
     let told = c .enum-told2 .given .1 in
     let here = c .before .before .judged .ensures
-    ∙ one (bits (given .buffer .now)) (mark (given .marker)) (given .tolerance) (given .frame) (8 * given .at + loop .k) (first apart)
+    ∙ one (bits (given .buffer .now)) (marker-bits (given .marker)) (given .tolerance) (given .frame) (8 * given .at + loop .k) (first apart)
     (second apart (c .before .before .before .apart2 .ensures)) in
     rw told (among-the-first _ _ _ _ 1 (given .count - loop .k) (8 * given .at + loop .k) (omega arith) (rw told at here) ∙ sym (loop .inv .1))
 
@@ -133,7 +133,7 @@ loop-again c =
       search needs,
       ⊎-elim
           (λ w. on (w .4 .given .0 .0) (rw (w .4 .given .1) at
-          (w .2 .ensures ∙ one (bits (given .buffer .now)) (mark (given .marker)) (given .tolerance) (given .frame) (8 * given .at + k)
+          (w .2 .ensures ∙ one (bits (given .buffer .now)) (marker-bits (given .marker)) (given .tolerance) (given .frame) (8 * given .at + k)
           (first (c .before)) (second (c .before) (w .1 .ensures)))))
           (λ w. on 11 (sym (none _ _ _ _ 1 (8 * given .at + k)
           (λ j h. let here : 8 * given .at + k + j ≡ 8 * given .at + k = omega arith in rw here

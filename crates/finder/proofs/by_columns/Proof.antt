@@ -6,7 +6,7 @@ use mathlib.Core.Logic.{⊎-elim}
 use native.Mathlib.Nat.{add-zero, sub-zero}
 use native.Mathlib.Omega.{arith}
 use borrow.Author.Needs.{needs}
-use Rattle.finder_windows.specs.Definition.{bits, mark, Answer, first-from}
+use Rattle.finder_windows.specs.Definition.{bits, marker-bits, Answer, first-from}
 use Rattle.finder_windows.proofs.Positions.{far, none, among-the-first, passed}
 use Rattle.finder_columns.specs.Columns.{Columns}
 use Rattle.finder_passing.specs.Next.{Far, Next}
@@ -15,11 +15,11 @@ use Rattle.finder.proofs.by_columns.Tie as tie
 
 -- a search goes on behind bytes in which every window is too far
 over : (bs : List ℕ) (m t L from to n : ℕ) {a : Answer} {n' : ℕ} → from ≤ to → 8 * to ≤ 8 * from + n → n - (8 * to - 8 * from) ≡ n' → Far bs m t from to
-    → a ≡ first-from (bits bs) (mark m) t L n (8 * from) → a ≡ first-from (bits bs) (mark m) t L n' (8 * to)
+    → a ≡ first-from (bits bs) (marker-bits m) t L n (8 * from) → a ≡ first-from (bits bs) (marker-bits m) t L n' (8 * to)
 over bs m t L from to n h room left away reached =
-    passed (bits bs) (mark m) t L (8 * to - 8 * from) n (8 * from) (omega arith) left (omega arith) reached 11
-    (sym (none (bits bs) (mark m) t L (8 * to - 8 * from) (8 * from)
-    (λ k hk. far (bits bs) (mark m) t L (8 * from + k) refl (away (8 * from + k) (omega arith) (omega arith)))))
+    passed (bits bs) (marker-bits m) t L (8 * to - 8 * from) n (8 * from) (omega arith) left (omega arith) reached 11
+    (sym (none (bits bs) (marker-bits m) t L (8 * to - 8 * from) (8 * from)
+    (λ k hk. far (bits bs) (marker-bits m) t L (8 * from + k) refl (away (8 * from + k) (omega arith) (omega arith)))))
 
 not-past : {bs : List ℕ} {m t from end r : ℕ} → Next bs m t from end r → from ≤ end → r ≤ end
 not-past next h = ⊎-elim (λ same. omega arith) (λ inside. inside .0) (next .inside)
@@ -28,8 +28,8 @@ abbrev Inv-loop : tie.InvT-loop
 Inv-loop buffer from count table marker tolerance frame end at₀ at =
     Columns marker tolerance table
     → (from ≤ at) × (at ≤ end)
-    × (first-from (bits buffer) (mark marker) tolerance frame count (8 * from)
-    ≡ first-from (bits buffer) (mark marker) tolerance frame (8 * from + count - 8 * at) (8 * at))
+    × (first-from (bits buffer) (marker-bits marker) tolerance frame count (8 * from)
+    ≡ first-from (bits buffer) (marker-bits marker) tolerance frame (8 * from + count - 8 * at) (8 * at))
 
 abbrev μ-loop : tie.MeasureT-loop
 μ-loop buffer from count table marker tolerance frame end at₀ at = end - at

@@ -5,7 +5,7 @@ use mathlib.Core.Bool.{false}
 use mathlib.Core.Logic.{⊎-elim}
 use native.Mathlib.Omega.{arith}
 use borrow.Author.Needs.{needs}
-use Rattle.finder_windows.specs.Definition.{bits, mark, window, distance, first-from}
+use Rattle.finder_windows.specs.Definition.{bits, marker-bits, window, distance, first-from}
 use Rattle.finder_windows.proofs.Distance.{distance-inside}
 use Rattle.finder_windows.proofs.Positions.{far, none, among-the-first, passed}
 use Rattle.finder.proofs.by_words.Statement.{statement}
@@ -14,7 +14,7 @@ use Rattle.finder.proofs.by_words.Tie as tie
 abbrev Inv-loop : tie.InvT-loop
 Inv-loop buffer count marker tolerance frame at₀ left₀ at left =
     (8 * at + left ≡ count)
-    × (first-from (bits buffer) (mark marker) tolerance frame count 0 ≡ first-from (bits buffer) (mark marker) tolerance frame left (8 * at))
+    × (first-from (bits buffer) (marker-bits marker) tolerance frame count 0 ≡ first-from (bits buffer) (marker-bits marker) tolerance frame left (8 * at))
 
 abbrev μ-loop : tie.MeasureT-loop
 μ-loop buffer count marker tolerance frame at₀ left₀ at left = left
@@ -53,7 +53,7 @@ loop-less c = search needs
 -- a word in which nothing is near has no window in the buffer that is
 quiet : (c : tie.After-near Inv-loop μ-loop) → c .near .result ≡ false
     → let given = c .before .before .before .before .before .args in
-    (k : ℕ) → k < 32 → given .tolerance < distance (window (bits (given .buffer .now)) (8 * c .before .before .before .loop .at + k)) (mark (given .marker))
+    (k : ℕ) → k < 32 → given .tolerance < distance (window (bits (given .buffer .now)) (8 * c .before .before .before .loop .at + k)) (marker-bits (given .marker))
 quiet c e k h =
     let given = c .before .before .before .before .before .args in
     let word = c .before .word-at in

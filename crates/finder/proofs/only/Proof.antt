@@ -4,7 +4,7 @@ use mathlib.Core.Path.{_≡_, sym, _∙_}
 use native.Mathlib.Omega.{arith}
 use borrow.Author.Needs.{needs}
 use lib.ListN.{length}
-use Rattle.finder_windows.specs.Definition.{bits, mark, window, distance}
+use Rattle.finder_windows.specs.Definition.{bits, marker-bits, window, distance}
 use Rattle.finder_windows.proofs.Distance.{distance-inside}
 use Rattle.finder_windows.proofs.Positions.{far, none, one}
 use Rattle.finder.proofs.only.Statement.{statement}
@@ -17,7 +17,7 @@ apart-requires : tie.Need-apart-requires
 apart-requires c κs = search needs
 
 first : (c : tie.After-apart) → let given = c .before .before .before .args in c .apart .result
-    ≡ distance (window (bits (given .buffer .now)) 0) (mark (given .marker))
+    ≡ distance (window (bits (given .buffer .now)) 0) (marker-bits (given .marker))
 first c =
     let given = c .before .before .before .args in
     let word = c .before .word-at in
@@ -26,9 +26,9 @@ first c =
 returns : tie.Need-returns
 returns c =
     let given = c .before .before .before .before .args in
-    sym (none (bits (given .buffer .now)) (mark (given .marker)) (given .tolerance) (given .frame) 1 0
+    sym (none (bits (given .buffer .now)) (marker-bits (given .marker)) (given .tolerance) (given .frame) 1 0
     (λ k h. let here : 0 + k ≡ 0 = omega arith in rw here
-    (far (bits (given .buffer .now)) (mark (given .marker)) (given .tolerance) (given .frame) 0 (first (c .before)) (omega arith))))
+    (far (bits (given .buffer .now)) (marker-bits (given .marker)) (given .tolerance) (given .frame) 0 (first (c .before)) (omega arith))))
 
 sub-word-at : tie.Need-sub-word-at
 sub-word-at c = search needs
@@ -51,7 +51,7 @@ returns-2 c =
     ∙ rw last at (distance-inside (given .buffer .now) (length (given .buffer .now) - 8) 32 (word .result) (given .marker) (omega arith) (omega arith)
     (word .ensures))
     in
-    c .judged .ensures ∙ one (bits (given .buffer .now)) (mark (given .marker)) (given .tolerance) (given .frame) 0
+    c .judged .ensures ∙ one (bits (given .buffer .now)) (marker-bits (given .marker)) (given .tolerance) (given .frame) 0
     (first (c .before .before .before .before)) second
 
 pub only-spec : {M : Type 1} → statement M

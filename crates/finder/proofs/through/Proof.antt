@@ -4,7 +4,7 @@ use mathlib.Core.Path.{_≡_, refl, sym, _∙_}
 use native.Mathlib.Nat.{add-zero, sub-zero}
 use native.Mathlib.Omega.{arith}
 use borrow.Author.Needs.{needs}
-use Rattle.finder_windows.specs.Definition.{bits, mark, first-from}
+use Rattle.finder_windows.specs.Definition.{bits, marker-bits, first-from}
 use Rattle.finder_windows.proofs.Positions.{among-the-first, passed}
 use Rattle.finder.proofs.through.Statement.{statement}
 use Rattle.finder.proofs.through.Tie as tie
@@ -12,7 +12,7 @@ use Rattle.finder.proofs.through.Tie as tie
 abbrev Inv-loop : tie.InvT-loop
 Inv-loop buffer from count marker tolerance frame at₀ left₀ at left =
     (8 * at + left ≡ 8 * from + count)
-    × (first-from (bits buffer) (mark marker) tolerance frame count (8 * from) ≡ first-from (bits buffer) (mark marker) tolerance frame left (8 * at))
+    × (first-from (bits buffer) (marker-bits marker) tolerance frame count (8 * from) ≡ first-from (bits buffer) (marker-bits marker) tolerance frame left (8 * at))
 
 abbrev μ-loop : tie.MeasureT-loop
 μ-loop buffer from count marker tolerance frame at₀ left₀ at left = left

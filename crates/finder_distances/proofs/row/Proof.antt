@@ -7,7 +7,7 @@ use native.Mathlib.Omega.{arith}
 use borrow.Author.Count.{below-more}
 use lib.ListN.{length, getD, set, length-set}
 use lib.Seq.{getD-set-same, getD-set-other}
-use Rattle.finder_windows.specs.Definition.{binary, bits, mark, window, distance}
+use Rattle.finder_windows.specs.Definition.{binary, bits, marker-bits, window, distance}
 use Rattle.finder_distances.specs.Windows.{after, Laid, Spread}
 use Rattle.finder_distances.proofs.Numbers.{inside, set-more, at-row}
 use borrow.Author.Needs.{needs}
@@ -87,19 +87,19 @@ loop-again c =
           let here = spread .2 (skip + loop .j) (omega arith) in
           let place : 8 * (byte + (skip + loop .j)) + shift ≡ 8 * byte + given .bit + (8 * loop .j + given .k) = omega arith in
           let index : 32 * given .k + (loop .j + 1) ≡ 32 * given .k + loop .j + 1 = omega arith in
-          let value : c .apart .result ≡ distance (window (bits bs) (8 * byte + given .bit + after (32 * given .k + loop .j))) (mark (given .marker)) =
+          let value : c .apart .result ≡ distance (window (bits bs) (8 * byte + given .bit + after (32 * given .k + loop .j))) (marker-bits (given .marker)) =
           c .apart .ensures
-          ∙ ap (λ (x : ℕ). distance (binary 32 x) (mark (given .marker))) (c .before .seen .ensures
+          ∙ ap (λ (x : ℕ). distance (binary 32 x) (marker-bits (given .marker))) (c .before .seen .ensures
           ∙ ap (λ (n : ℕ). (getD (given .heads .now) (skip + loop .j) 0 * 256 + n) / 2 ^ (8 - shift) % 2 ^ 32) (here .1))
           ∙ inside bs (byte + (skip + loop .j)) (getD (given .heads .now) (skip + loop .j) 0) shift (given .marker) (omega arith) (omega arith) (here .2)
           (here .0)
-          ∙ ap (λ (q : ℕ). distance (window (bits bs) q) (mark (given .marker)))
+          ∙ ap (λ (q : ℕ). distance (window (bits bs) q) (marker-bits (given .marker)))
           (place ∙ ap (λ (q : ℕ). 8 * byte + given .bit + q) (sym (at-row (given .k) (loop .j) (omega arith))))
           in
           let before = loop .inv .1 bs byte room spread laid in
           rw index (
             simp length-set (before .0),
-            set-more (λ i v. v ≡ distance (window (bits bs) (8 * byte + given .bit + after i)) (mark (given .marker)))
+            set-more (λ i v. v ≡ distance (window (bits bs) (8 * byte + given .bit + after i)) (marker-bits (given .marker)))
                 (loop .away) (32 * given .k + loop .j) (c .apart .result) (omega (arith, before .0)) value (before .1),
           ),
     )

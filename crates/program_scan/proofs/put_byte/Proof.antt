@@ -17,7 +17,7 @@ abbrev Inv-loop : tie.InvT-loop
 Inv-loop block₀ text₀ codes from number pen₀ i₀ block text pen i =
     (i % 32 ≡ from) × (i ≤ from + 256) × (length block ≡ length block₀) × (length text ≡ length text₀)
     × Ready text (pen .digits) (pen .tail) (number + i / 32)
-    × Wrote block₀ (pen₀ .held) (lines (tolds codes from number (i / 32))) block (pen .held) × (pen .held ≤ pen₀ .held + 44 * (i / 32))
+    × Wrote block₀ (pen₀ .used) (lines (tolds codes from number (i / 32))) block (pen .used) × (pen .used ≤ pen₀ .used + 44 * (i / 32))
 
 abbrev μ-loop : tie.MeasureT-loop
 μ-loop block₀ text₀ codes from number pen₀ i₀ block text pen i = 288 - i
@@ -32,7 +32,7 @@ loop-holds c =
       refl,
       rw (none, add-zero (given .number)) (c .before .before .before .pre .0),
       rw none
-          (said-as (tolds-none (given .codes .now) (given .from) (given .number)) (no-more (given .block .now) (given .pen .held))),
+          (said-as (tolds-none (given .codes .now) (given .from) (given .number)) (no-more (given .block .now) (given .pen .used))),
       omega arith,
     )
 

@@ -67,9 +67,9 @@ returns c =
     let three = c .before .before .before .before .before .before .before .before .before .before .put-word in
     let four = c .before .before .before .before .before .before .put-word2 in
     let five = c .before .before .put-word3 in (
-      line-put (given .block .now) (given .text .now) (two .last .0) (three .last .0) (four .last .0) (five .last .0) (given .pen .held)
+      line-put (given .block .now) (given .text .now) (two .last .0) (three .last .0) (four .last .0) (five .last .0) (given .pen .used)
           (given .pen .digits) (given .pen .tail) (given .code) few (pre .1 .0)
-          (pre .1 .1 .0) (two .ensures ∙ ap (λ (l : List ℕ). paste l (given .pen .held + given .pen .digits) (drop (given .pen .digits) (given .text .now)) 8) (c .before .before .before .before .before .before .before .before .before .before .before .before .before .before .before .before .before .before .copy .ensures)) (three .ensures)
+          (pre .1 .1 .0) (two .ensures ∙ ap (λ (l : List ℕ). paste l (given .pen .used + given .pen .digits) (drop (given .pen .digits) (given .text .now)) 8) (c .before .before .before .before .before .before .before .before .before .before .before .before .before .before .before .before .before .before .copy .ensures)) (three .ensures)
           (four .ensures) (five .ensures),
       omega arith,
     )

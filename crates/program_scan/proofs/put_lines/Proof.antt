@@ -21,7 +21,7 @@ returns : tie.Need-returns
 returns c =
     let given = c .before .before .before .before .before .args in
     let is = c .put-to .ensures in (
-      omega (arith, ap (λ (z : Put). z .held) is),
+      omega (arith, ap (λ (z : Put). z .used) is),
       λ X s small made few. let all = s .all in subst
           (λ (z : Put). Lined (given .marker) (given .tolerance) (given .frame) (given .from) (given .count) X (given .window .now) (given .scan)
           (given .block .now) (given .block .now) z) (sym is)
@@ -49,7 +49,7 @@ returns-2 c =
     let given = c .before .before .before .before .before .before .before .args in
     let known = c .before .before .before .before .is-shut .ensures .1 (c .before .before .before .if1 .left) in
     let is = c .put-to2 .ensures in (
-      omega (arith, ap (λ (z : Put). z .held) is),
+      omega (arith, ap (λ (z : Put). z .used) is),
       λ X s small made few. subst
           (λ (z : Put). Lined (given .marker) (given .tolerance) (given .frame) (given .from) (given .count) X (given .window .now) (given .scan)
           (given .block .now) (given .block .now) z) (sym is)
@@ -91,12 +91,12 @@ returns-3 c =
     let fill = c .before .before .before .before .fill in
     let end = c .before .before .before .before .before .before .before .before .limit .ensures in
     let is = c .put-to3 .ensures in (
-      rw (ap (λ (z : Put). z .held) is) (fill .ensures .0 .2),
+      rw (ap (λ (z : Put). z .used) is) (fill .ensures .0 .2),
       λ X s small made few. subst
           (λ (z : Put). Lined (given .marker) (given .tolerance) (given .frame) (given .from) (given .count) X (given .window .now) (given .scan)
           (given .block .now) (fill .last .0) z) (sym is)
           (to-the-end (given .marker) (given .tolerance) (given .frame) (given .from) (given .count) X (given .window .now) (given .scan)
-          (given .block .now) s (known .4) (fill .last .0) (fill .result .held) (fill .result .at) (rw end at (fill .ensures .1 made)) true refl
+          (given .block .now) s (known .4) (fill .last .0) (fill .result .used) (fill .result .at) (rw end at (fill .ensures .1 made)) true refl
           (c .before .if3 .taken ∙ end)),
     )
 
@@ -114,12 +114,12 @@ returns-4 c =
     let end = c .before .before .before .before .before .before .before .before .limit .ensures in
     let short-of = less (fill .result .at) (c .before .before .before .before .before .before .before .before .limit .result) (fill .ensures .0 .1) (c .before .if3 .left) in
     let is = c .put-to4 .ensures in (
-      rw (ap (λ (z : Put). z .held) is) (fill .ensures .0 .2),
+      rw (ap (λ (z : Put). z .used) is) (fill .ensures .0 .2),
       λ X s small made few. subst
           (λ (z : Put). Lined (given .marker) (given .tolerance) (given .frame) (given .from) (given .count) X (given .window .now) (given .scan)
           (given .block .now) (fill .last .0) z) (sym is)
           (part-of-it (given .marker) (given .tolerance) (given .frame) (given .from) (given .count) X (given .window .now) (given .scan)
-          (given .block .now) s (known .4) (fill .last .0) (fill .result .held) (fill .result .at) (rw end at (fill .ensures .1 made)) false refl
+          (given .block .now) s (known .4) (fill .last .0) (fill .result .used) (fill .result .at) (rw end at (fill .ensures .1 made)) false refl
           (rw end at short-of)),
     )
 

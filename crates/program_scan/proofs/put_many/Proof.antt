@@ -16,7 +16,7 @@ use Rattle.program_scan.proofs.put_many.Tie as tie
 abbrev Inv-loop : tie.InvT-loop
 Inv-loop block₀ text₀ codes number pen₀ j₀ block text pen j =
     (j ≤ 32) × (length block ≡ length block₀) × (length text ≡ length text₀) × Ready text (pen .digits) (pen .tail) (number + 8 * j)
-    × Wrote block₀ (pen₀ .held) (lines (all-told codes number j)) block (pen .held) × (pen .held ≤ pen₀ .held + 352 * j)
+    × Wrote block₀ (pen₀ .used) (lines (all-told codes number j)) block (pen .used) × (pen .used ≤ pen₀ .used + 352 * j)
 
 abbrev μ-loop : tie.MeasureT-loop
 μ-loop block₀ text₀ codes number pen₀ j₀ block text pen j = 32 - j
@@ -29,7 +29,7 @@ loop-holds c =
       refl,
       rw (add-zero (given .number)) (c .before .before .before .pre .0),
       said-as (all-none (given .codes .now) (given .number))
-          (no-more (given .block .now) (given .pen .held)),
+          (no-more (given .block .now) (given .pen .used)),
       omega arith,
     )
 

@@ -31,17 +31,17 @@ returns c =
       ⊎-elim
           (λ w.
           let few = pre .1 .1 .1 (w .0 .taken) in
-          let held = step .ensures .1 ∙ w .7 in (
-            rw (w .6, held) (said-as (told-met (given .number) (given .code) (w .0 .taken))
+          let used = step .ensures .1 ∙ w .7 in (
+            rw (w .6, used) (said-as (told-met (given .number) (given .code) (w .0 .taken))
                 (w .3 .ensures .0 (given .number) (given .code % 65536) (given .code / 65536) (pre .0) (few .0) (few .1) (omega arith))),
             omega
-                (arith, held, w .3 .ensures .1),
+                (arith, used, w .3 .ensures .1),
           ))
           (λ w.
-          let held = step .ensures .1 ∙ w .2 in (
-            rw (w .1, held) (said-as (told-far (given .number) (given .code) (w .0 .left)) (no-more (given .block .now) (given .pen .held))),
+          let used = step .ensures .1 ∙ w .2 in (
+            rw (w .1, used) (said-as (told-far (given .number) (given .code) (w .0 .left)) (no-more (given .block .now) (given .pen .used))),
             omega
-                (arith, held),
+                (arith, used),
           )) (c .before .before .before .before .if1 .came),
     )
 

@@ -3,7 +3,7 @@ use Prim.Native.Nat.{ℕ, _+_, _*_, _-_, _<_, _≤_}
 use mathlib.Core.Path.{_≡_, refl, sym, ap, _∙_}
 use native.Mathlib.Omega.{arith}
 use lib.ListN.{length}
-use Rattle.finder_windows.specs.Definition.{bits, mark, found, first-from}
+use Rattle.finder_windows.specs.Definition.{bits, marker-bits, found, first-from}
 use Rattle.finder_columns.specs.Columns.{Columns}
 use Rattle.program_scan.proofs.Search.{nowhere, head, near, beyond}
 use borrow.Author.Needs.{needs}
@@ -23,7 +23,7 @@ enum-told c = search needs
 heard : (c : tie.After-known-told)
     → let given = c .before .before .before .before .before .args in
     Columns (given .marker) (given .tolerance) (given .table .now)
-    → first-from (bits (given .buffer .now)) (mark (given .marker)) (given .tolerance) (given .frame)
+    → first-from (bits (given .buffer .now)) (marker-bits (given .marker)) (given .tolerance) (given .frame)
     (8 * length (given .buffer .now) - (given .frame + 31) - given .at) (given .at)
     ≡ found (c .before .p .given .0 .0) (c .before .p .given .0 .1 .0) (c .before .p .given .0 .1 .1 .0)
 heard c made = sym (rw (c .before .p .given .1) at (c .before .before .before .next .ensures (omega arith) (omega arith) (omega arith) made))
@@ -32,7 +32,7 @@ returns : tie.Need-returns
 returns c =
     let given = c .before .before .before .before .args in (
       omega arith,
-      λ made. nowhere (bits (given .buffer .now)) (mark (given .marker)) (given .tolerance) (given .frame)
+      λ made. nowhere (bits (given .buffer .now)) (marker-bits (given .marker)) (given .tolerance) (given .frame)
           (8 * length (given .buffer .now) - (given .frame + 31) - given .at) (given .at) (given .end) (omega arith) (omega arith) _
           (sym (rw (c .enum-told .given .1) at (c .before .before .next .ensures (omega arith) (omega arith) (omega arith) made))),
     )
@@ -44,7 +44,7 @@ returns-2 c =
       omega arith,
       λ made. absurd (omega (
         arith,
-        head (bits (given .buffer .now)) (mark (given .marker)) (given .tolerance) (given .frame)
+        head (bits (given .buffer .now)) (marker-bits (given .marker)) (given .tolerance) (given .frame)
             (8 * length (given .buffer .now) - (given .frame + 31) - given .at) (given .at) (given .end) (omega arith) (omega arith) _ _ _ (heard told made) .low,
       )),
     )
@@ -54,7 +54,7 @@ returns-3 c =
     let given = c .before .before .before .before .before .before .before .args in
     let told = c .before .before in (
       omega arith,
-      λ made. beyond (bits (given .buffer .now)) (mark (given .marker)) (given .tolerance) (given .frame)
+      λ made. beyond (bits (given .buffer .now)) (marker-bits (given .marker)) (given .tolerance) (given .frame)
           (8 * length (given .buffer .now) - (given .frame + 31) - given .at) (given .at) (given .end) (omega arith) (omega arith) _ _ _ (heard told made)
           (omega arith),
     )
@@ -66,7 +66,7 @@ returns-4 c =
       omega arith,
       λ made. absurd (omega (
         arith,
-        near (bits (given .buffer .now)) (mark (given .marker)) (given .tolerance) (given .frame)
+        near (bits (given .buffer .now)) (marker-bits (given .marker)) (given .tolerance) (given .frame)
             (8 * length (given .buffer .now) - (given .frame + 31) - given .at) (given .at) (given .end) (omega arith) (omega arith) _ _ _ (heard told made) .0,
       )),
     )
@@ -78,7 +78,7 @@ returns-5 c =
       omega arith,
       λ made. absurd (omega (
         arith,
-        near (bits (given .buffer .now)) (mark (given .marker)) (given .tolerance) (given .frame)
+        near (bits (given .buffer .now)) (marker-bits (given .marker)) (given .tolerance) (given .frame)
             (8 * length (given .buffer .now) - (given .frame + 31) - given .at) (given .at) (given .end) (omega arith) (omega arith) _ _ _ (heard told made) .1,
       )),
     )
@@ -88,7 +88,7 @@ returns-6 c =
     let given = c .before .before .before .before .before .before .before .before .before .args in
     let told = c .before .before .before .before in (
       (omega arith, omega arith, omega arith, omega arith),
-      λ made. head (bits (given .buffer .now)) (mark (given .marker)) (given .tolerance) (given .frame)
+      λ made. head (bits (given .buffer .now)) (marker-bits (given .marker)) (given .tolerance) (given .frame)
           (8 * length (given .buffer .now) - (given .frame + 31) - given .at) (given .at) (given .end) (omega arith) (omega arith) _ _ _ (heard told made) .only,
     )
 

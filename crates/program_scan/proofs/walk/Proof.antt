@@ -5,7 +5,7 @@ use mathlib.Core.Bool.{true, true≢false, _&&_}
 use native.Mathlib.Omega.{arith}
 use lib.Dec.{leb}
 use lib.ListN.{length}
-use Rattle.finder_windows.specs.Definition.{bits, mark}
+use Rattle.finder_windows.specs.Definition.{bits, marker-bits}
 use Rattle.finder_windows.specs.declared.Answer.{Answer}
 use Rattle.finder_columns.specs.Columns.{Columns}
 use Rattle.capture_meetings.specs.Meetings.{all-from, shift}
@@ -20,11 +20,11 @@ use Rattle.program_scan.proofs.walk.Tie as tie
 
 abbrev Inv-loop : tie.InvT-loop
 Inv-loop block₀ text₀ first₀ second₀ buffer from end table marker tolerance frame base pen₀ at₀ dense₀ block text first second pen at dense =
-    (from ≤ at) × (at ≤ end) × (length block ≡ length block₀) × (length text ≡ 48) × (length first ≡ 256) × (length second ≡ 256) × (pen .held ≤ length block₀)
+    (from ≤ at) × (at ≤ end) × (length block ≡ length block₀) × (length text ≡ 48) × (length first ≡ 256) × (length second ≡ 256) × (pen .used ≤ length block₀)
     × (dense ≡ true → Ready text (pen .digits) (pen .tail) (base + at))
     × (Columns marker tolerance table
-    → Wrote block₀ 0 (lines (shift base (all-from (bits buffer) (mark marker) tolerance frame (at - from) from))) block (pen .held)
-    × (length (lines (shift base (all-from (bits buffer) (mark marker) tolerance frame (at - from) from))) ≡ pen .held))
+    → Wrote block₀ 0 (lines (shift base (all-from (bits buffer) (marker-bits marker) tolerance frame (at - from) from))) block (pen .used)
+    × (length (lines (shift base (all-from (bits buffer) (marker-bits marker) tolerance frame (at - from) from))) ≡ pen .used))
 
 abbrev μ-loop : tie.MeasureT-loop
 μ-loop block₀ text₀ first₀ second₀ buffer from end table marker tolerance frame base pen₀ at₀ dense₀ block text first second pen at dense = end - at
@@ -33,7 +33,7 @@ loop-holds : tie.Need-loop-holds Inv-loop μ-loop
 loop-holds c =
     let given = c .before .before .before .args in
     let pre = c .before .before .before .pre in
-    let start : given .pen .held ≡ 0 = pre .1 .1 .1 .1 .1 .1 .1 in (
+    let start : given .pen .used ≡ 0 = pre .1 .1 .1 .1 .1 .1 .1 in (
       omega arith,
       omega arith,
       refl,
@@ -44,8 +44,8 @@ loop-holds c =
       λ e. absurd (true≢false (sym e)),
       λ made. (
         rw start
-            (begun (bits (given .buffer .now)) (mark (given .marker)) (given .tolerance) (given .frame) (given .base) (given .block .now) (given .from)),
-        begun-exact (bits (given .buffer .now)) (mark (given .marker)) (given .tolerance) (given .frame) (given .base) (given .from) ∙ sym start,
+            (begun (bits (given .buffer .now)) (marker-bits (given .marker)) (given .tolerance) (given .frame) (given .base) (given .block .now) (given .from)),
+        begun-exact (bits (given .buffer .now)) (marker-bits (given .marker)) (given .tolerance) (given .frame) (given .base) (given .from) ∙ sym start,
       ),
     )
 
@@ -96,12 +96,12 @@ many-requires c κs =
     let inv = loop .inv in
     let taken = both _ _ (c .before .before .before .before .if2 .taken) in
     let outer = both _ _ (taken .0) in
-    let room : 11265 ≤ length (loop .block) - loop .pen .held = leb-true _ _ (outer .1) in
+    let room : 11265 ≤ length (loop .block) - loop .pen .used = leb-true _ _ (outer .1) in
     let left : 288 ≤ given .end - loop .at = leb-true _ _ (taken .1) in
     let high : given .end + given .frame + 31 ≤ 8 * length (given .buffer .now) = pre .1 .1 .0 in
     let below : given .base + 8 * length (given .buffer .now) ≤ 9223372036854775808 = pre .1 .1 .1 .0 in
     let number : given .base + loop .at + 256 < 9223372036854775808 = omega (arith, room, left, high, below) in
-    let space : loop .pen .held + 11264 ≤ length (loop .block) = omega (arith, room) in
+    let space : loop .pen .used + 11264 ≤ length (loop .block) = omega (arith, room) in
     let inside : loop .at + given .frame + 296 ≤ 8 * length (given .buffer .now) = omega (arith, left, high) in
     let small : 8 * length (given .buffer .now) < 18446744073709551616 = omega (arith, below) in
     (inv .7 (outer .0), (number, (space, ((inv .4, inv .5), (inside, (small, pre .1 .1 .1 .1 .0))))))
@@ -111,7 +111,7 @@ add-at c =
     let given = c .before .before .before .before .before .before .before .before .before .before .before .before .before .before .before .before .before .before .args in
     let pre = c .before .before .before .before .before .before .before .before .before .before .before .before .before .before .before .before .before .before .pre in
     let loop = c .before .before .before .before .before .before .before .before .before .before .before .before .before .before .loop in
-    let taken = both (loop .dense && leb 11265 (length (loop .block) - loop .pen .held)) (leb 288 (given .end - loop .at)) (c .before .before .before .before .before .before .before .before .before .before .if2 .taken) in
+    let taken = both (loop .dense && leb 11265 (length (loop .block) - loop .pen .used)) (leb 288 (given .end - loop .at)) (c .before .before .before .before .before .before .before .before .before .before .if2 .taken) in
     let left : 288 ≤ given .end - loop .at = leb-true _ _ (taken .1) in
     let high : given .end + given .frame + 31 ≤ 8 * length (given .buffer .now) = pre .1 .1 .0 in
     let below : given .base + 8 * length (given .buffer .now) ≤ 9223372036854775808 = pre .1 .1 .1 .0 in
@@ -127,21 +127,21 @@ loop-again c =
     let inv = loop .inv in
     let many = c .before .before .before .before .before .many in
     let taken = both _ _ (c .before .before .before .before .before .before .before .before .before .before .if2 .taken) in
-    let room : 11265 ≤ length (loop .block) - loop .pen .held = leb-true _ _ (both (loop .dense) _ (taken .0) .1) in
+    let room : 11265 ≤ length (loop .block) - loop .pen .used = leb-true _ _ (both (loop .dense) _ (taken .0) .1) in
     let left : 288 ≤ given .end - loop .at = leb-true _ _ (taken .1) in
     let next : given .base + loop .at + 256 ≡ given .base + (loop .at + 256) = omega arith in
     let size : length (loop .block) ≡ length (given .block .now) = inv .2 in
-    let held : many .result .held ≤ loop .pen .held + 11264 = many .ensures .1 .1 .0 in (
+    let used : many .result .used ≤ loop .pen .used + 11264 = many .ensures .1 .1 .0 in (
       omega (arith, inv .0),
       omega (arith, left),
       many .kept .0 ∙ inv .2,
       many .kept .1 .0 ∙ inv .3,
       many .ensures .1 .1 .1 .0,
       many .ensures .1 .1 .1 .1,
-      omega (arith, held, room, size),
+      omega (arith, used, room, size),
       λ e. rw next at (many .ensures .0),
-      λ made. let put = more (bits (given .buffer .now)) (mark (given .marker)) (given .tolerance) (given .frame) (given .base) (given .from) (loop .at)
-          (inv .0) (inv .8 made .0) 256 (many .ensures .1 .0 (given .base) refl) in (put, exact put (omega (arith, held, room, size))),
+      λ made. let put = more (bits (given .buffer .now)) (marker-bits (given .marker)) (given .tolerance) (given .frame) (given .base) (given .from) (loop .at)
+          (inv .0) (inv .8 made .0) 256 (many .ensures .1 .0 (given .base) refl) in (put, exact put (omega (arith, used, room, size))),
     )
 
 sought-requires : tie.Need-sought-requires Inv-loop μ-loop
@@ -164,11 +164,11 @@ returns-2 c =
     let given = c .before .before .before .before .before .before .before .before .before .before .before .args in
     let loop = c .before .before .before .before .before .before .before .loop in
     let inv = loop .inv in
-    let room : 45 ≤ length (loop .block) - loop .pen .held = c .before .before .before .before .before .is-full .ensures .1
+    let room : 45 ≤ length (loop .block) - loop .pen .used = c .before .before .before .before .before .is-full .ensures .1
     (c .before .before .before .before .if1 .left) in
     let size : length (loop .block) ≡ length (given .block .now) = inv .2 in (
       (omega (arith, inv .0, inv .1), omega arith, inv .6),
-      λ made. let put = none-more (bits (given .buffer .now)) (mark (given .marker)) (given .tolerance) (given .frame) (given .base) (given .from)
+      λ made. let put = none-more (bits (given .buffer .now)) (marker-bits (given .marker)) (given .tolerance) (given .frame) (given .base) (given .from)
           (loop .at) (given .end) (inv .0) (inv .1) (rw (c .enum-told .given .1) at (c .before .before .sought .ensures .1 made)) (inv .8 made .0) in record {
             forward = omega (arith, inv .0, inv .1);
             inside = omega arith;
@@ -204,9 +204,9 @@ one-requires c κs =
     (given .buffer .now) = c .before .before .before .before .before .before .before .before .before .before .before .before .before .before .pre .1 .1 .0 in
     let below : given .base + 8 * length (given .buffer .now) ≤ 9223372036854775808 = c .before .before .before .before .before .before .before .before .before .before .before .before .before .before .pre .1 .1 .1 .0 in
     let number : given .base + c .before .before .before .p .given .0 .0 < 9223372036854775808 = omega (arith, within .1, high, below) in
-    let room : 45 ≤ length (loop .block) - loop .pen .held = c .before .before .before .before .before .before .before .before .is-full .ensures .1
+    let room : 45 ≤ length (loop .block) - loop .pen .used = c .before .before .before .before .before .before .before .before .is-full .ensures .1
     (c .before .before .before .before .before .before .before .if1 .left) in
-    let space : loop .pen .held + 44 ≤ length (loop .block) = omega (arith, room) in
+    let space : loop .pen .used + 44 ≤ length (loop .block) = omega (arith, room) in
     (omega (arith, inv .3), (number, (space, (within .2, within .3))))
 
 sub-dense : tie.Need-sub-dense Inv-loop μ-loop
@@ -261,22 +261,22 @@ loop-again-2 c =
     let one = c .before .before .before .before .one in
     let p = c .before .before .before .before .before .before .before .before .p .given .0 .0 in
     let next : given .base + p + 1 ≡ given .base + (p + 1) = omega arith in
-    let room : 45 ≤ length (loop .block) - loop .pen .held = c .before .before .before .before .before .before .before .before .before .before .before .before .before .is-full .ensures .1 (c .before .before .before .before .before .before .before .before .before .before .before .before .if1 .left) in
+    let room : 45 ≤ length (loop .block) - loop .pen .used = c .before .before .before .before .before .before .before .before .before .before .before .before .before .is-full .ensures .1 (c .before .before .before .before .before .before .before .before .before .before .before .before .if1 .left) in
     let size : length (loop .block) ≡ length (given .block .now) = inv .2 in
-    let held : one .result .held ≤ loop .pen .held + 44 = one .ensures .1 .1 in (
+    let used : one .result .used ≤ loop .pen .used + 44 = one .ensures .1 .1 in (
       omega (arith, inv .0, within .0),
       omega (arith, within .1),
       one .kept .0 ∙ inv .2,
       one .kept .1 .0 ∙ inv .3,
       inv .4,
       inv .5,
-      omega (arith, held, room, size),
+      omega (arith, used, room, size),
       λ e. rw next at (one .ensures .0),
-      λ made. let put = one-more (bits (given .buffer .now)) (mark (given .marker)) (given .tolerance) (given .frame) (given .base) (given .from) (loop .at)
+      λ made. let put = one-more (bits (given .buffer .now)) (marker-bits (given .marker)) (given .tolerance) (given .frame) (given .base) (given .from) (loop .at)
           (inv .0) (inv .8 made .0) p _ _ (within .0)
           (rw (c .before .before .before .before .before .before .before .before .p .given .1) at
           (c .before .before .before .before .before .before .before .before .before .before .sought .ensures .1 made)) (one .ensures .1 .0) in
-          (put, exact put (omega (arith, held, room, size))),
+          (put, exact put (omega (arith, used, room, size))),
     )
 
 same-length-5 : tie.Need-same-length-5 Inv-loop μ-loop
