@@ -40,8 +40,8 @@ extern "C" {
 #endif
 
 /* Major times 1,000,000, minor times 1,000, patch. gatulefo_version() is that of the library that is linked. */
-#define GATULEFO_VERSION 2000
-#define GATULEFO_VERSION_STRING "0.2.0"
+#define GATULEFO_VERSION 3000
+#define GATULEFO_VERSION_STRING "0.3.0"
 
 /* The 128 bits of a vector, low half first: byte 0 is the low byte of `lo`. Its layout is C's, so that another language can hand one over. */
 typedef struct {
@@ -1476,7 +1476,7 @@ void gatulefo_vector_row_i8x16_popcnt(gatulefo_v128 *first, size_t first_length)
 /* The version of the archive. */
 
 /* Major times 1,000,000, minor times 1,000, patch. The header made with an archive has the same number as GATULEFO_VERSION.
- * r ≡ 2000 */
+ * r ≡ 3000 */
 uint32_t gatulefo_version(void);
 
 /* Lanes of one width from those of another: extending, extended products and sums, the dot product, narrowing, and what the widening loads do with

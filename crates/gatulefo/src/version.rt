@@ -4,7 +4,7 @@ ghost use mathlib.Core.Path.{_≡_};
 // Major times 1,000,000, minor times 1,000, patch. The header made with an archive has the same number as GATULEFO_VERSION.
 #[no_mangle]
 pub extern "C" fn gatulefo_version() -> u32
-    ensures { λ r. ⌜ r ≡ 2000 ⌝ }
+    ensures { λ r. ⌜ r ≡ 3000 ⌝ }
 {
-    2000
+    3000
 }
