@@ -62,6 +62,15 @@ slice-aggregate-write-all-2 c = search needs
 write-all-requires-2 : tie.Need-write-all-requires-2
 write-all-requires-2 c κs = search needs
 
+digit-requires : tie.Need-digit-requires
+digit-requires c κs = search needs
+
+slice-aggregate-write-all-3 : tie.Need-slice-aggregate-write-all-3
+slice-aggregate-write-all-3 c = search needs
+
+write-all-requires-3 : tie.Need-write-all-requires-3
+write-all-requires-3 c κs = search needs
+
 returns-2 : tie.Need-returns-2
 returns-2 c = search needs
 
@@ -82,4 +91,7 @@ write-mended-spec =
     array-share-prefix-said
     slice-aggregate-write-all-2
     write-all-requires-2
+    digit-requires
+    slice-aggregate-write-all-3
+    write-all-requires-3
     returns-2)

@@ -51,6 +51,15 @@ fail-requires c κs = search needs
 returns : tie.Need-returns
 returns c = search needs
 
+digit-requires : tie.Need-digit-requires
+digit-requires c κs = search needs
+
+slice-aggregate-write-all-2 : tie.Need-slice-aggregate-write-all-2
+slice-aggregate-write-all-2 c = search needs
+
+write-all-requires-2 : tie.Need-write-all-requires-2
+write-all-requires-2 c κs = search needs
+
 returns-2 : tie.Need-returns-2
 returns-2 c = search needs
 
@@ -60,11 +69,20 @@ record-said-requires c κs = search needs
 array-share-prefix-said : tie.Need-array-share-prefix-said
 array-share-prefix-said c = search needs
 
-slice-aggregate-write-all-2 : tie.Need-slice-aggregate-write-all-2
-slice-aggregate-write-all-2 c = search needs
+slice-aggregate-write-all-3 : tie.Need-slice-aggregate-write-all-3
+slice-aggregate-write-all-3 c = search needs
 
-write-all-requires-2 : tie.Need-write-all-requires-2
-write-all-requires-2 c κs = search needs
+write-all-requires-3 : tie.Need-write-all-requires-3
+write-all-requires-3 c κs = search needs
+
+digit-requires-2 : tie.Need-digit-requires-2
+digit-requires-2 c κs = search needs
+
+slice-aggregate-write-all-4 : tie.Need-slice-aggregate-write-all-4
+slice-aggregate-write-all-4 c = search needs
+
+write-all-requires-4 : tie.Need-write-all-requires-4
+write-all-requires-4 c κs = search needs
 
 returns-3 : tie.Need-returns-3
 returns-3 c = search needs
@@ -82,9 +100,15 @@ write-recording-spec =
     slice-aggregate-fail
     fail-requires
     returns
+    digit-requires
+    slice-aggregate-write-all-2
+    write-all-requires-2
     returns-2
     record-said-requires
     array-share-prefix-said
-    slice-aggregate-write-all-2
-    write-all-requires-2
+    slice-aggregate-write-all-3
+    write-all-requires-3
+    digit-requires-2
+    slice-aggregate-write-all-4
+    write-all-requires-4
     returns-3)
