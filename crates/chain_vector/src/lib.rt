@@ -30,6 +30,7 @@ fn linked(link: [u8; 17], a: V128, b: V128, current: V128) -> V128
     }
 }
 
+// No program calls it. It is for whoever has two vectors in hand, and the theorem `one-shuffle` says that one shuffle by the folded list gives the same.
 pub fn apply(links: &[[u8; 17]], a: V128, b: V128) -> VectorAnswer
     ensures { λ r. ⌜ vector-answer r ≡ applied (now (links .entry)) (number a) (number b) ⌝ }
 {
