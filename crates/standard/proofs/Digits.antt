@@ -88,9 +88,6 @@ module _ (w : ℕ) (whole : w * (128 / w) ≡ 128) where
   fit : {x : ℕ} → x < 2 ^ 128 → x < 2 ^ (w * (128 / w))
   fit {x} h = subst⁻¹ (λ (k : ℕ). x < 2 ^ k) whole h
 
-  pub joined-lanes : (x : ℕ) → x < 2 ^ 128 → joined w (lanes w x) ≡ x
-  joined-lanes x h = joined-digits w (128 / w) x (fit h)
-
   pub lanes-joined : (ds : List ℕ) → length ds ≡ 128 / w → Below (2 ^ w) ds → lanes w (joined w ds) ≡ ds
   lanes-joined ds e b = ap (λ (n : ℕ). digits w n (joined w ds)) (sym e) ∙ digits-joined w ds b
 
