@@ -14,6 +14,12 @@ pub const INDEX_REFUSED: u8 = 5;
 pub const ACCESS_REFUSED: u8 = 7;
 pub const NO_FUNCTION: u8 = 255;
 
+/// What the result of an answer is.
+const NOTHING: u8 = 0;
+pub const VECTOR: u8 = 1;
+pub const SCALAR: u8 = 2;
+pub const BOOLEAN: u8 = 3;
+
 pub type Answer = [u8; ANSWER];
 
 /// A request, its fields apart.
@@ -110,16 +116,16 @@ impl_outcome! {
 }
 
 impl Outcome {
-    /// The kind and the bits of a scalar.
-    fn kind_and_bits(self) -> (u8, u64) {
+    /// What it is, the kind of a scalar, and the bits of a scalar or a boolean.
+    fn parts(self) -> (u8, u8, u64) {
         match self {
-            Self::Nothing => (0, 0),
-            Self::Vector(_) => (1, 0),
-            Self::I32(bits) => (2, bits.into()),
-            Self::I64(bits) => (3, bits),
-            Self::F32(bits) => (4, bits.into()),
-            Self::F64(bits) => (5, bits),
-            Self::Bool(value) => (6, value.into()),
+            Self::Nothing => (NOTHING, 0, 0),
+            Self::Vector(_) => (VECTOR, 0, 0),
+            Self::I32(bits) => (SCALAR, 0, bits.into()),
+            Self::I64(bits) => (SCALAR, 1, bits),
+            Self::F32(bits) => (SCALAR, 2, bits.into()),
+            Self::F64(bits) => (SCALAR, 3, bits),
+            Self::Bool(value) => (BOOLEAN, 0, value.into()),
         }
     }
 }
@@ -130,8 +136,9 @@ pub fn answer_bytes(result: Result<Outcome, u8>, memory: &[u8]) -> Answer {
     match result {
         Err(refusal) => bytes[0] = refusal,
         Ok(outcome) => {
-            let (kind, bits) = outcome.kind_and_bits();
-            bytes[1] = kind;
+            let (result, kind, bits) = outcome.parts();
+            bytes[1] = result;
+            bytes[2] = kind;
             bytes[8..16].copy_from_slice(&bits.to_le_bytes());
             if let Outcome::Vector(vector) = outcome {
                 bytes[16..32].copy_from_slice(&vector.bytes());

@@ -12,15 +12,15 @@ pub enum Kind {
 }
 
 impl Kind {
-    // By which two kinds are told apart.
+    // By which two kinds are told apart, and which a recording has.
     pub fn number(self) -> u8
         ensures { λ r. ⌜ r ≡ kind-number (the-kind self) ⌝ }
     {
         match self {
-            Kind::I32 => 1,
-            Kind::I64 => 2,
-            Kind::F32 => 3,
-            Kind::F64 => 4,
+            Kind::I32 => 0,
+            Kind::I64 => 1,
+            Kind::F32 => 2,
+            Kind::F64 => 3,
         }
     }
 }

@@ -1,5 +1,6 @@
-// An answer before its memory: the refusal number, the kind of the result, and the result. What a result does not use is zero.
+// An answer before its memory: the refusal number, what the result is, and the result. What a result does not use is zero.
 use crate::layout::*;
+use calculator_rules::shape::Kind;
 use lane_integer::reinterpret::unsigned32;
 use lane_integer::reinterpret::unsigned64;
 use memory_access::PAST;
@@ -20,18 +21,14 @@ const NOTHING: u8 = 0;
 
 const IS_VECTOR: u8 = 1;
 
-const IS_I32: u8 = 2;
+const IS_SCALAR: u8 = 2;
 
-const IS_I64: u8 = 3;
-
-const IS_F32: u8 = 4;
-
-const IS_F64: u8 = 5;
-
-const IS_BOOL: u8 = 6;
+const IS_BOOL: u8 = 3;
 
 pub struct Answer {
     pub refusal: u8,
+    pub result: u8,
+    // the number of a scalar's kind
     pub kind: u8,
     pub bits: u64,
     pub vector: V128,
@@ -42,7 +39,8 @@ impl Answer {
         let zero = V128 { lo: 0, hi: 0 };
         Answer {
             refusal: number,
-            kind: NOTHING,
+            result: NOTHING,
+            kind: 0,
             bits: 0,
             vector: zero,
         }
@@ -53,7 +51,8 @@ impl Answer {
         let zero = V128 { lo: 0, hi: 0 };
         Answer {
             refusal: PAST,
-            kind: NOTHING,
+            result: NOTHING,
+            kind: 0,
             bits: short,
             vector: zero,
         }
@@ -66,31 +65,37 @@ impl Answer {
     pub fn vector(v: V128) -> Answer {
         Answer {
             refusal: 0,
-            kind: IS_VECTOR,
+            result: IS_VECTOR,
+            kind: 0,
             bits: 0,
             vector: v,
         }
     }
 
-    fn scalar(kind: u8, bits: u64) -> Answer {
+    fn of_bits(result: u8, kind: u8, bits: u64) -> Answer {
         let zero = V128 { lo: 0, hi: 0 };
         Answer {
             refusal: 0,
-            kind: kind,
-            bits: bits,
+            result,
+            kind,
+            bits,
             vector: zero,
         }
     }
 
+    fn scalar(kind: Kind, bits: u64) -> Answer {
+        Answer::of_bits(IS_SCALAR, kind.number(), bits)
+    }
+
     pub fn u32(x: u32) -> Answer {
-        Answer::scalar(IS_I32, x as u64)
+        Answer::scalar(Kind::I32, x as u64)
     }
 
     pub fn boolean(x: bool) -> Answer {
         if x {
-            Answer::scalar(IS_BOOL, 1)
+            Answer::of_bits(IS_BOOL, 0, 1)
         } else {
-            Answer::scalar(IS_BOOL, 0)
+            Answer::of_bits(IS_BOOL, 0, 0)
         }
     }
 
@@ -117,21 +122,21 @@ impl Answer {
 
     pub fn of_i64(v: I64Answer) -> Answer {
         match v {
-            I64Answer::Value(x) => Answer::scalar(IS_I64, unsigned64(x)),
+            I64Answer::Value(x) => Answer::scalar(Kind::I64, unsigned64(x)),
             I64Answer::Refused(number) => Answer::refused(number),
         }
     }
 
     pub fn of_f32(v: F32Answer) -> Answer {
         match v {
-            F32Answer::Value(x) => Answer::scalar(IS_F32, x.to_bits() as u64),
+            F32Answer::Value(x) => Answer::scalar(Kind::F32, x.to_bits() as u64),
             F32Answer::Refused(number) => Answer::refused(number),
         }
     }
 
     pub fn of_f64(v: F64Answer) -> Answer {
         match v {
-            F64Answer::Value(x) => Answer::scalar(IS_F64, x.to_bits()),
+            F64Answer::Value(x) => Answer::scalar(Kind::F64, x.to_bits()),
             F64Answer::Refused(number) => Answer::refused(number),
         }
     }
@@ -147,7 +152,7 @@ impl Answer {
     // A store has no result: what it wrote is in the memory.
     pub fn of_store(v: StoreAnswer) -> Answer {
         match v {
-            StoreAnswer::Done => Answer::scalar(NOTHING, 0),
+            StoreAnswer::Done => Answer::of_bits(NOTHING, 0, 0),
             StoreAnswer::Refused(number) => Answer::refused(number),
             StoreAnswer::Past(short) => Answer::past(short),
         }
@@ -157,6 +162,7 @@ impl Answer {
     pub fn bytes(self) -> [u8; 80] {
         let mut out = [0u8; 80];
         out[REFUSAL] = self.refusal;
+        out[RESULT] = self.result;
         out[KIND] = self.kind;
         put(&mut out, BITS, self.bits);
         let v = self.vector;

@@ -3,7 +3,8 @@
 // A request: 0..1 function number, 2 lane, 3 memory length, 4..7 shift count, 8..15 pointer or address, 16..23 offset, 24..31 scalar or bits operand,
 // 32..47 a, 48..63 b, 64..79 c or the sixteen shuffle indices, 80..127 memory.
 //
-// An answer: 0 refusal number, 1 kind, 2..7 zero, 8..15 scalar bits or, with refusal 7, the shortfall, 16..31 vector, 32..79 the memory afterwards.
+// An answer: 0 refusal number, 1 what the result is (0 nothing, 1 a vector, 2 a scalar, 3 a boolean), 2 the kind of a scalar (0 i32, 1 i64, 2 f32, 3 f64), 3..7
+// zero, 8..15 the bits of a scalar or a boolean or, with refusal 7, the shortfall, 16..31 vector, 32..79 the memory afterwards.
 ghost use Prim.Native.Nat.{_+_, _≤_};
 
 pub const REQUEST: usize = 128;
@@ -34,7 +35,9 @@ pub const ANSWER: usize = 80;
 
 pub const REFUSAL: usize = 0;
 
-pub const KIND: usize = 1;
+pub const RESULT: usize = 1;
+
+pub const KIND: usize = 2;
 
 pub const BITS: usize = 8;
 

@@ -3,20 +3,22 @@ use Prim.Native.Nat.{ℕ, _%_, _^_}
 use mathlib.Core.Bool.{cond}
 use mathlib.Core.List.{List}
 use lib.Dec.{eqb}
-use Rattle.standard.specs.Instruction.{Kind, i32, i64, f32, f64}
+use Rattle.standard.specs.Instruction.{Kind, kind-number, i32, i64, f32, f64}
 use Rattle.standard.specs.Refusal.{Answer, given, refused}
 use Rattle.calculator_rules.specs.Definition.{Machine, Outcome, ended, paused, stopped, Ending}
 use Rattle.calculator_state.specs.State.{vectors}
-use Rattle.recording_rules.specs.Definition.{kind-byte}
 use Rattle.link_station.specs.declared.calculation.RunAnswer.{RunAnswer}
 use Rattle.link_station.specs.declared.calculation.StepAnswer.{StepAnswer}
 
--- the scalar of a kind's number, which is the one that a recording has, i32 where there is no such kind; of a kind of 32 bits the low bits count
+-- the scalar of a kind's number, i32 where there is no such kind; of a kind of 32 bits the low bits count
 unfoldable pub held : ℕ → ℕ → Kind × ℕ
-held k b = cond (eqb k 1) (i64, b) (cond (eqb k 2) (f32, b % 2 ^ 32) (cond (eqb k 3) (f64, b) (i32, b % 2 ^ 32)))
+held k b =
+    cond (eqb k (kind-number i64)) (i64, b)
+    (cond (eqb k (kind-number f32)) (f32, b % 2 ^ 32)
+    (cond (eqb k (kind-number f64)) (f64, b) (i32, b % 2 ^ 32)))
 
 abbrev pub scalar-numbers : Kind → ℕ → ℕ × ℕ
-scalar-numbers k b = (kind-byte k, b)
+scalar-numbers k b = (kind-number k, b)
 
 -- the state of 32 words, two a register, the numbers beside the registers, and the scalar
 abbrev pub machine-held : List ℕ → List ℕ → ℕ → ℕ → Machine

@@ -7,6 +7,7 @@ ghost use Rattle.calculator_limits.specs.Outcome.{outcome-of};
 ghost use Rattle.link_station.specs.Calculate.{held, scalar-numbers, stop-numbers, run-numbers};
 use calculator_limits::Outcome;
 use calculator_scalar::Scalar;
+use calculator_state::kind;
 use lane_float::F32;
 use lane_float::F64;
 use lane_integer::reinterpret::signed64;
@@ -80,12 +81,9 @@ pub fn scalar_of(given: KindAndBits) -> Scalar
 pub fn kind_and_bits(scalar: Scalar) -> KindAndBits
     ensures { λ r. ⌜ (r .kind, r .bits) ≡ scalar-numbers (kind-of scalar) (bits-of scalar) ⌝ }
 {
-    let bits = scalar.bits();
-    match scalar {
-        Scalar::I32(_) => KindAndBits { kind: 0, bits },
-        Scalar::I64(_) => KindAndBits { kind: 1, bits },
-        Scalar::F32(_) => KindAndBits { kind: 2, bits },
-        Scalar::F64(_) => KindAndBits { kind: 3, bits },
+    KindAndBits {
+        kind: kind(scalar).number(),
+        bits: scalar.bits(),
     }
 }
 

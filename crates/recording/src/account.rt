@@ -11,7 +11,6 @@ ghost use Rattle.recording_rules.specs.Definition.{trace-of, next};
 use calculator_scalar::Scalar;
 use calculator_state::kind;
 use calculator_step::step;
-use recording_rules::kind_byte;
 
 // The scalar after a step, and its trace: the halves of the vector written, the number of the refusal, the scalar's kind and bits.
 pub struct Left {
@@ -43,7 +42,7 @@ pub fn account(
         lo: v.lo,
         hi: v.hi,
         refused: stepped.refused,
-        kind: kind_byte(kind(after)),
+        kind: kind(after).number(),
         bits: after.bits(),
     }
 }

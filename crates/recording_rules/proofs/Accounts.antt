@@ -13,7 +13,7 @@ use lib.ListN.{length, getD, take, drop, length-append, length-drop}
 use lib.Seq.{drop-drop, length-take-le}
 use Rattle.standard.specs.Refusal as calculator
 use Rattle.standard.specs.Refusal.{given}
-use Rattle.standard.specs.Instruction.{instruction}
+use Rattle.standard.specs.Instruction.{kind-number, instruction}
 use Rattle.calculator_rules.specs.Definition.{Machine, Profile, profile, operation, destination, sources, all-registers, used, effect, refusal, step}
 use Rattle.calculator_rules.proofs.Judged.{one}
 use Rattle.recording_fields.specs.Definition.{trace, Answer, agrees, differs, refused, compared, recorded}
@@ -21,7 +21,7 @@ use Rattle.recording_fields.proofs.Words.{length-trace}
 use Rattle.recording_layout.specs.Definition.{record-at}
 use Rattle.recording_packing.specs.Definition.{blocks-for, standing}
 use Rattle.recording_packing.proofs.Standing.{place, one-put, none-behind}
-use Rattle.recording_rules.specs.Definition.{kind-byte, written, left-by, trace-of, going-on, next, replay-from, records-from}
+use Rattle.recording_rules.specs.Definition.{written, left-by, trace-of, going-on, next, replay-from, records-from}
 
 -- ---- a step that is not refused names a register where it writes one
 
@@ -73,7 +73,7 @@ module _ (place : ℕ) (m after : Machine) (s : List ℕ) where
 module _ (place : ℕ) (m after : Machine) (s : List ℕ) (r v k b : ℕ) (answer : cond (eqb r 0) (given after) (calculator.refused r) ≡ step place m s)
     (kept : (r ≡ 0 → ⊥) → after ≡ m)
     (vector : v ≡ cond (eqb r 0) (cond (profile (instruction (operation s)) .gives-vector) (getD (after .registers) (destination s % 16) 0) 0) 0)
-    (kind : k ≡ kind-byte (after .kind)) (bits : b ≡ after .bits) where
+    (kind : k ≡ kind-number (after .kind)) (bits : b ≡ after .bits) where
   done : r ≡ 0 → step place m s ≡ given after
   done e = sym (rw (eq-eqb r 0 e) at answer)
 
@@ -154,8 +154,8 @@ unfolding trace-of
 length-trace-of place m s = of (step place m s)
   where
     of : (a : calculator.Answer Machine) → length (left-by s m a) ≡ 32
-    of (calculator.given after) = length-trace (written s after) 0 (kind-byte (after .kind)) (after .bits)
-    of (calculator.refused n) = length-trace 0 n (kind-byte (m .kind)) (m .bits)
+    of (calculator.given after) = length-trace (written s after) 0 (kind-number (after .kind)) (after .bits)
+    of (calculator.refused n) = length-trace 0 n (kind-number (m .kind)) (m .bits)
 
 -- a step of the list, and how long what is left of the run is
 module _ (n at : ℕ) (list : List ℕ) (m : Machine) (h : at < n) (enough : 32 * n ≤ length list) where

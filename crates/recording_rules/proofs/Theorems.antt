@@ -12,7 +12,7 @@ use lib.Seq.{take-at, drop-at, drop-drop, getD-append-add, length-take-le}
 use Rattle.standard.specs.Refusal as calculator
 use Rattle.standard.specs.Refusal.{given}
 use Rattle.standard.specs.Lanes.{digits}
-use Rattle.standard.specs.Instruction.{Kind, i32, i64, f32, f64}
+use Rattle.standard.specs.Instruction.{Kind, kind-number, i32, i64, f32, f64}
 use Rattle.calculator_rules.specs.Definition.{Machine, start, step, whole-steps, list-refusal}
 use Rattle.calculator_rules.proofs.Judged.{one}
 use Rattle.recording_fields.specs.Definition.{wide, trace, agrees}
@@ -22,11 +22,11 @@ use Rattle.recording_packing.specs.Definition.{blocks-for, packed, fits, standi
 use Rattle.recording_packing.proofs.Blocks.{length-packed, fitting}
 use Rattle.recording_packing.proofs.Laid.{nth, Lawful, judged-packed, found}
 use Rattle.recording_rules.specs.Definition as definition
-use Rattle.recording_rules.specs.Definition.{kind-byte, written, left-by, trace-of, going-on, next, replay-from, replay, further, records-from, records-of, Recorded, wrote, empty, short, rejected}
+use Rattle.recording_rules.specs.Definition.{written, left-by, trace-of, going-on, next, replay-from, replay, further, records-from, records-of, Recorded, wrote, empty, short, rejected}
 
 -- ---- a record by the rules of the layout
 
-known-kind : (k : Kind) → kind-byte k ≤ 3
+known-kind : (k : Kind) → kind-number k ≤ 3
 known-kind i32 = omega arith
 known-kind i64 = omega arith
 known-kind f32 = omega arith
@@ -149,17 +149,17 @@ recordable (suc left) place list m h =
         → Recordable (suc left) place m (suc (many-after a (λ next. many left (suc place) (drop 32 list) next)))
         (take 32 list ++ trace-of place m (take 32 list) ++ further a (λ next. records-from left (suc place) (drop 32 list) next))
     go (calculator.given after) e ih =
-        let traced : trace-of place m s ≡ trace (written s after) 0 (kind-byte (after .kind)) (after .bits) = ap (left-by s m) e in
-        in-front left place m s ls (ap length traced ∙ length-trace (written s after) 0 (kind-byte (after .kind)) (after .bits)) _ _
+        let traced : trace-of place m s ≡ trace (written s after) 0 (kind-number (after .kind)) (after .bits) = ap (left-by s m) e in
+        in-front left place m s ls (ap length traced ∙ length-trace (written s after) 0 (kind-number (after .kind)) (after .bits)) _ _
         (ap (λ (t : List ℕ). record-laid (eqb 1 (suc (many left (suc place) (drop 32 list) after))) (s ++ t)) traced
-        ∙ laid-trace s ls (written s after) 0 (kind-byte (after .kind)) (after .bits) (eqb 1 (suc (many left (suc place) (drop 32 list) after)))
+        ∙ laid-trace s ls (written s after) 0 (kind-number (after .kind)) (after .bits) (eqb 1 (suc (many left (suc place) (drop 32 list) after)))
         (known-kind (after .kind)) (or-true (eqb 1 (suc (many left (suc place) (drop 32 list) after)))))
         (subst (λ (x : Machine). Recordable left (suc place) x (many left (suc place) (drop 32 list) after)
         (records-from left (suc place) (drop 32 list) after)) (sym (ap (going-on m) e)) (ih after))
     go (calculator.refused n) e ih =
-        let traced : trace-of place m s ≡ trace 0 n (kind-byte (m .kind)) (m .bits) = ap (left-by s m) e in
-        in-front left place m s ls (ap length traced ∙ length-trace 0 n (kind-byte (m .kind)) (m .bits)) 0 []
-        (ap (λ (t : List ℕ). record-laid true (s ++ t)) traced ∙ laid-trace s ls 0 n (kind-byte (m .kind)) (m .bits) true (known-kind (m .kind)) refl)
+        let traced : trace-of place m s ≡ trace 0 n (kind-number (m .kind)) (m .bits) = ap (left-by s m) e in
+        in-front left place m s ls (ap length traced ∙ length-trace 0 n (kind-number (m .kind)) (m .bits)) 0 []
+        (ap (λ (t : List ℕ). record-laid true (s ++ t)) traced ∙ laid-trace s ls 0 n (kind-number (m .kind)) (m .bits) true (known-kind (m .kind)) refl)
         (none left (suc place) (next place m s))
 
 -- ---- a whole list

@@ -5,19 +5,12 @@ use mathlib.Core.List.{List, [], _++_}
 use lib.Dec.{leb, eqb}
 use lib.ListN.{length, getD, take, drop}
 use Rattle.standard.specs.Refusal as calculator
-use Rattle.standard.specs.Instruction.{Kind, i32, i64, f32, f64, instruction}
+use Rattle.standard.specs.Instruction.{kind-number, instruction}
 use Rattle.calculator_rules.specs.Definition.{Machine, start, operation, destination, profile, step, list-refusal}
 use Rattle.recording_fields.specs.Definition.{trace, Answer, agrees, differs, refused, compared}
 use Rattle.recording_layout.specs.Definition as layout
 use Rattle.recording_layout.specs.Definition.{record-at, judged}
 use Rattle.recording_packing.specs.Definition.{packed}
-
--- "scalar kind after it (0 i32, 1 i64, 2 f32, 3 f64, no other)"
-abbrev pub kind-byte : Kind → ℕ
-kind-byte i32 = 0
-kind-byte i64 = 1
-kind-byte f32 = 2
-kind-byte f64 = 3
 
 -- "the 16-byte vector written (zeros if none)": the destination's, in the state after the step.
 abbrev pub written : List ℕ → Machine → ℕ
@@ -25,8 +18,8 @@ written s next = cond (profile (instruction (operation s)) .gives-vector) (getD 
 
 -- What a step leaves in its record. A refused step writes nothing and leaves the scalar as it was.
 abbrev pub left-by : List ℕ → Machine → calculator.Answer Machine → List ℕ
-left-by s m (calculator.given next) = trace (written s next) 0 (kind-byte (next .kind)) (next .bits)
-left-by s m (calculator.refused n) = trace 0 n (kind-byte (m .kind)) (m .bits)
+left-by s m (calculator.given next) = trace (written s next) 0 (kind-number (next .kind)) (next .bits)
+left-by s m (calculator.refused n) = trace 0 n (kind-number (m .kind)) (m .bits)
 
 unfoldable pub trace-of : ℕ → Machine → List ℕ → List ℕ
 trace-of place m s = left-by s m (step place m s)

@@ -10,15 +10,15 @@ use Rattle.standard.specs.Convert.{fceil, ffloor, ftrunc, fnearest, demo
 use Rattle.standard.specs.Vector.{extend, extmul, extadd-pairwise, dot, narrow, convert-low, convert-zero, swizzle, any-true, all-true, bitmask}
 use Rattle.standard.specs.Relaxed.{relaxed-swizzle, relaxed-laneselect, relaxed-q15mulr, relaxed-min, relaxed-max, relaxed-dot, relaxed-dot-add}
 
--- The kinds of a scalar, and a number for each, by which two are told apart.
+-- The kinds of a scalar, and a number for each: "0 i32, 1 i64, 2 f32, 3 f64, no other" (document 02, order 8).
 pub data Kind : Type 0 where
   i32 i64 f32 f64 : Kind
 
 abbrev pub kind-number : Kind → ℕ
-kind-number i32 = 1
-kind-number i64 = 2
-kind-number f32 = 3
-kind-number f64 = 4
+kind-number i32 = 0
+kind-number i64 = 1
+kind-number f32 = 2
+kind-number f64 = 3
 
 -- What an instruction takes and gives. A scalar is its bits as a number; the width of a lane gives the lane count.
 pub data Instruction : Type 0 where

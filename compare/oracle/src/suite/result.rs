@@ -1,7 +1,7 @@
 //! A result of the suite as an expected answer and a mask.
 
 use super::{bits, vector};
-use crate::wire::{ACCESS_REFUSED, ANSWER, Answer};
+use crate::wire::{ACCESS_REFUSED, ANSWER, Answer, BOOLEAN, SCALAR, VECTOR};
 
 /// The expected answer but for its memory, and the bits of it that count.
 pub fn expected(column: &str, boolean: bool) -> (Answer, Answer) {
@@ -10,15 +10,15 @@ pub fn expected(column: &str, boolean: bool) -> (Answer, Answer) {
         None if column == "trap" => answer[0] = ACCESS_REFUSED,
         None if column == "-" => (),
         None => {
-            answer[1] = 1;
+            answer[1] = VECTOR;
             answer[16..32].copy_from_slice(&vector(column));
         }
         Some((shape @ ("f32x4" | "f64x2"), lanes)) => {
-            answer[1] = 1;
+            answer[1] = VECTOR;
             patterns(shape, lanes, &mut answer[16..32], &mut mask[16..32]);
         }
         Some((kind, hex)) => {
-            answer[1] = if boolean { 6 } else { kind_number(kind) };
+            (answer[1], answer[2]) = if boolean { (BOOLEAN, 0) } else { (SCALAR, kind_number(kind)) };
             answer[8..16].copy_from_slice(&bits(hex).to_le_bytes());
         }
     }
@@ -27,10 +27,10 @@ pub fn expected(column: &str, boolean: bool) -> (Answer, Answer) {
 
 fn kind_number(kind: &str) -> u8 {
     match kind {
-        "i32" => 2,
-        "i64" => 3,
-        "f32" => 4,
-        "f64" => 5,
+        "i32" => 0,
+        "i64" => 1,
+        "f32" => 2,
+        "f64" => 3,
         _ => panic!("no kind {kind}"),
     }
 }
