@@ -2,7 +2,7 @@
 use mathlib.Core.Path.{ap, ap₂, _∙_}
 use Prim.Native.Nat.{ℕ}
 use Rattle.standard.specs.Instruction.{kind-number}
-use Rattle.calculator_rules.proofs.Shapes.{nothing}
+use Rattle.standard.proofs.Calls.{nothing}
 use Rattle.link_station.proofs.calculation.kind_and_bits.Statement.{statement}
 use Rattle.link_station.proofs.calculation.kind_and_bits.Tie as tie
 
