@@ -359,11 +359,11 @@ gatulefo_v128 gatulefo_v128_bitselect(gatulefo_v128 v1, gatulefo_v128 v2, gatule
  * words, two a register, low half first; beside each stands the number of the step that wrote it. */
 
 /* Performs an operation by its number: the step of 32 bytes, as the one at a place of a list, counted from 0. A step that is refused changes nothing.
- * step-numbers (vectors (now (registers .exit))) (now (writers .exit)) r ≡ left-by-step (machine-held (now (registers .entry)) (now (writers .entry)) (scalar .kind) (scalar .bits)) (Definition.step place (machine-held (now (registers .entry)) (now (writers .entry)) (scalar .kind) (scalar .bits)) (now (step .entry))) */
+ * step-numbers (vectors (now (registers .exit))) (now (writers .exit)) r ≡ left-by-step (machine-told (now (registers .entry)) (now (writers .entry)) (scalar .kind) (scalar .bits)) (Definition.step place (machine-told (now (registers .entry)) (now (writers .entry)) (scalar .kind) (scalar .bits)) (now (step .entry))) */
 gatulefo_step_answer gatulefo_step(uint64_t registers[32], uint16_t writers[16], gatulefo_kind_and_bits scalar, uint8_t place, const uint8_t *step, size_t step_length);
 
 /* Runs the list from a place, at most `limit` steps of it. The registers and the numbers beside them are left as the run leaves them.
- * (vectors (now (registers .exit)), now (writers .exit), run-numbers r) ≡ left-by-run (Definition.run (now (list .entry)) place limit (machine-held (now (registers .entry)) (now (writers .entry)) (scalar .kind) (scalar .bits))) */
+ * (vectors (now (registers .exit)), now (writers .exit), run-numbers r) ≡ left-by-run (Definition.run (now (list .entry)) place limit (machine-told (now (registers .entry)) (now (writers .entry)) (scalar .kind) (scalar .bits))) */
 gatulefo_run_answer gatulefo_run(uint64_t registers[32], uint16_t writers[16], gatulefo_kind_and_bits scalar, const uint8_t *list, size_t list_length, size_t place, size_t limit);
 
 /* Lane by lane integer comparison: all ones or all zeros. */

@@ -3,7 +3,7 @@
 ghost use mathlib.Core.Path.{_≡_};
 ghost use Rattle.calculator_rules.specs.Definition;
 ghost use Rattle.calculator_state.specs.State.{vectors};
-ghost use Rattle.link_station.specs.Calculate.{machine-held, step-numbers, left-by-step, run-numbers, left-by-run};
+ghost use Rattle.link_station.specs.Calculate.{machine-told, step-numbers, left-by-step, run-numbers, left-by-run};
 use link_station::calculation::KindAndBits;
 use link_station::calculation::RunAnswer;
 use link_station::calculation::StepAnswer;
@@ -20,7 +20,7 @@ pub extern "C" fn gatulefo_step(
     place: u8,
     step: &[u8],
 ) -> StepAnswer
-    ensures { λ r. ⌜ step-numbers (vectors (now (registers .exit))) (now (writers .exit)) r ≡ left-by-step (machine-held (now (registers .entry)) (now (writers .entry)) (scalar .kind) (scalar .bits)) (Definition.step place (machine-held (now (registers .entry)) (now (writers .entry)) (scalar .kind) (scalar .bits)) (now (step .entry))) ⌝ }
+    ensures { λ r. ⌜ step-numbers (vectors (now (registers .exit))) (now (writers .exit)) r ≡ left-by-step (machine-told (now (registers .entry)) (now (writers .entry)) (scalar .kind) (scalar .bits)) (Definition.step place (machine-told (now (registers .entry)) (now (writers .entry)) (scalar .kind) (scalar .bits)) (now (step .entry))) ⌝ }
 {
     let stepped = calculator_step::step(registers, writers, scalar_of(scalar), place, step);
     let left = stepped.scalar;
@@ -40,7 +40,7 @@ pub extern "C" fn gatulefo_run(
     place: usize,
     limit: usize,
 ) -> RunAnswer
-    ensures { λ r. ⌜ (vectors (now (registers .exit)), now (writers .exit), run-numbers r) ≡ left-by-run (Definition.run (now (list .entry)) place limit (machine-held (now (registers .entry)) (now (writers .entry)) (scalar .kind) (scalar .bits))) ⌝ }
+    ensures { λ r. ⌜ (vectors (now (registers .exit)), now (writers .exit), run-numbers r) ≡ left-by-run (Definition.run (now (list .entry)) place limit (machine-told (now (registers .entry)) (now (writers .entry)) (scalar .kind) (scalar .bits))) ⌝ }
 {
     let stopped = calculator::run::run_words(
         registers,

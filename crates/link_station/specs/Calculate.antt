@@ -11,8 +11,8 @@ use Rattle.link_station.specs.declared.calculation.RunAnswer.{RunAnswer}
 use Rattle.link_station.specs.declared.calculation.StepAnswer.{StepAnswer}
 
 -- the scalar of a kind's number, i32 where there is no such kind; of a kind of 32 bits the low bits count
-unfoldable pub held : ℕ → ℕ → Kind × ℕ
-held k b =
+unfoldable pub told : ℕ → ℕ → Kind × ℕ
+told k b =
     cond (eqb k (kind-number i64)) (i64, b)
     (cond (eqb k (kind-number f32)) (f32, b % 2 ^ 32)
     (cond (eqb k (kind-number f64)) (f64, b) (i32, b % 2 ^ 32)))
@@ -21,8 +21,8 @@ abbrev pub scalar-numbers : Kind → ℕ → ℕ × ℕ
 scalar-numbers k b = (kind-number k, b)
 
 -- the state of 32 words, two a register, the numbers beside the registers, and the scalar
-abbrev pub machine-held : List ℕ → List ℕ → ℕ → ℕ → Machine
-machine-held w n k b = record { registers = vectors w; writers = n; kind = held k b .0; bits = held k b .1 }
+abbrev pub machine-told : List ℕ → List ℕ → ℕ → ℕ → Machine
+machine-told w n k b = record { registers = vectors w; writers = n; kind = told k b .0; bits = told k b .1 }
 
 -- where it paused, whether it did, and the number of a refusal
 abbrev pub stop-numbers : Outcome → ℕ × ℕ × ℕ

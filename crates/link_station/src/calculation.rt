@@ -4,7 +4,7 @@ ghost use mathlib.Core.Path.{_≡_};
 ghost use Rattle.standard.specs.Instruction.{i64, f32, f64};
 ghost use Rattle.calculator_scalar.specs.Scalar.{kind-of, bits-of, scalar-of};
 ghost use Rattle.calculator_limits.specs.Outcome.{outcome-of};
-ghost use Rattle.link_station.specs.Calculate.{held, scalar-numbers, stop-numbers, run-numbers};
+ghost use Rattle.link_station.specs.Calculate.{told, scalar-numbers, stop-numbers, run-numbers};
 use calculator_limits::Outcome;
 use calculator_scalar::Scalar;
 use calculator_state::kind;
@@ -62,7 +62,7 @@ fn f64_of(bits: u64) -> Scalar
 }
 
 pub fn scalar_of(given: KindAndBits) -> Scalar
-    ensures { λ r. ⌜ scalar-of r ≡ held (given .kind) (given .bits) ⌝ }
+    ensures { λ r. ⌜ scalar-of r ≡ told (given .kind) (given .bits) ⌝ }
 {
     let kind = given.kind;
     let bits = given.bits;

@@ -7,8 +7,8 @@ ghost use Rattle.recording_fields.specs.Definition.{trace, differs, compared};
 ghost use Rattle.recording_compare.specs.Verdict.{answer-of};
 use memory_access::Fetched64;
 use memory_bounds::Effective;
-use recording_fields::held;
-use recording_fields::marks;
+use recording_fields::ending_word;
+use recording_fields::scalar_word;
 
 // What a replay answers.
 pub enum Answer {
@@ -55,8 +55,8 @@ pub fn compare(
     let b = word(bytes, 40);
     let c = word(bytes, 48);
     let d = word(bytes, 56);
-    let wanted = marks(refused, kind);
-    let scalar = held(kind, bits);
+    let wanted = ending_word(refused, kind);
+    let scalar = scalar_word(kind, bits);
     if (a == lo) & (b == hi) & (c == wanted) & (d == scalar) {
         return Answer::Agrees;
     }

@@ -82,8 +82,8 @@ word-bytes xs at f h =
     ∙ digits-joined 8 (take 8 (drop at xs)) (below-take 8 (drop at xs) (below-drop at xs (below xs f)))
 
 -- the word of the refusal number and the scalar's kind
-pub marks-word : (n k : ℕ) → n < 256 → k < 256 → digits 8 8 (n + 256 * k) ≡ n ∷ k ∷ replicate 6 0
-marks-word n k hn hk =
+pub two-bytes : (n k : ℕ) → n < 256 → k < 256 → digits 8 8 (n + 256 * k) ≡ n ∷ k ∷ replicate 6 0
+two-bytes n k hn hk =
     let z : 0 < 256 = lit< tt in
     ap (digits 8 8) (omega arith) ∙ digits-joined 8 (n ∷ k ∷ replicate 6 0) (hn, (hk, (z, (z, (z, (z, (z, (z, tt))))))))
 
@@ -99,12 +99,12 @@ narrow-word b =
 
 -- ---- a trace
 
-module _ (lo hi n k b : ℕ) (m s : ℕ) (below : lo < 2 ^ 64) (is-marks : digits 8 8 m ≡ n ∷ k ∷ replicate 6 0) (is-scalar : digits 8 8 s ≡ scalar-bytes k b) where
+module _ (lo hi n k b : ℕ) (m s : ℕ) (below : lo < 2 ^ 64) (is-ending-word : digits 8 8 m ≡ n ∷ k ∷ replicate 6 0) (is-scalar : digits 8 8 s ≡ scalar-bytes k b) where
   pub trace-words : trace (lo + 2 ^ 64 * hi) n k b ≡ digits 8 8 lo ++ (digits 8 8 hi ++ (digits 8 8 m ++ digits 8 8 s))
   unfolding trace
   trace-words =
       ap (λ (l : List ℕ). l ++ (n ∷ k ∷ replicate 6 0) ++ scalar-bytes k b) (digits-append 8 8 8 lo hi below)
-      ∙ ap₂ (λ (x y : List ℕ). digits 8 8 lo ++ digits 8 8 hi ++ x ++ y) (sym is-marks) (sym is-scalar)
+      ∙ ap₂ (λ (x y : List ℕ). digits 8 8 lo ++ digits 8 8 hi ++ x ++ y) (sym is-ending-word) (sym is-scalar)
       ∙ append-assoc (digits 8 8 lo ++ digits 8 8 hi) (digits 8 8 m) (digits 8 8 s)
       ∙ append-assoc (digits 8 8 lo) (digits 8 8 hi) (digits 8 8 m ++ digits 8 8 s)
 

@@ -15,14 +15,14 @@ pub fn is_wide(kind: u8) -> bool
 }
 
 // The word of the refusal number, the scalar's kind and six zeros.
-pub fn marks(refused: u8, kind: u8) -> u64
+pub fn ending_word(refused: u8, kind: u8) -> u64
     ensures { λ r. ⌜ digits 8 8 r ≡ refused ∷ kind ∷ replicate 6 0 ⌝ }
 {
     refused as u64 + 256 * (kind as u64)
 }
 
 // The word of the scalar's bits.
-pub fn held(kind: u8, bits: u64) -> u64
+pub fn scalar_word(kind: u8, bits: u64) -> u64
     ensures { λ r. ⌜ digits 8 8 r ≡ scalar-bytes kind bits ⌝ }
 {
     if is_wide(kind) {
@@ -48,8 +48,8 @@ pub fn put(out: &mut [u8], s: &[u8], lo: u64, hi: u64, refused: u8, kind: u8, bi
             bytes::copy(s, out);
             put_word(out, 32, lo);
             put_word(out, 40, hi);
-            put_word(out, 48, marks(refused, kind));
-            put_word(out, 56, held(kind, bits));
+            put_word(out, 48, ending_word(refused, kind));
+            put_word(out, 56, scalar_word(kind, bits));
         }
     }
 }

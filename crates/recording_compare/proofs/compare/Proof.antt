@@ -18,23 +18,23 @@ returns c =
     c .not-the-same .ensures ∙ rw (not-long (now (a .bytes)) (a .lo + 2 ^ 64 * a .hi) (a .refused) (a .kind) (a .bits) (c .before .if1 .taken))
 
 -- the words that were read tell whether the trace is the definition's
-told : (c : tie.After-held) →
+told : (c : tie.After-scalar-word) →
     let a = c .before .before .before .before .before .before .before .before .args in
     same (drop 32 (now (a .bytes))) (trace (a .lo + 2 ^ 64 * a .hi) (a .refused) (a .kind) (a .bits))
     ≡ (eqb (c .before .before .before .before .before .word .result) (a .lo) && eqb (c .before .before .before .before .word2 .result) (a .hi)
-    && eqb (c .before .before .before .word3 .result) (c .before .marks .result) && eqb (c .before .before .word4 .result) (c .held .result))
+    && eqb (c .before .before .before .word3 .result) (c .before .ending-word .result) && eqb (c .before .before .word4 .result) (c .scalar-word .result))
 told c =
     let w = c .before .before .before .before .before in
     let start = w .before .before .before in
     let a = start .args in
     let k = start .fits in
-    ap (same (drop 32 (now (a .bytes)))) (trace-words (a .lo) (a .hi) (a .refused) (a .kind) (a .bits) _ _ (k .lo .fits) (c .before .marks .ensures)
-    (c .held .ensures))
+    ap (same (drop 32 (now (a .bytes)))) (trace-words (a .lo) (a .hi) (a .refused) (a .kind) (a .bits) _ _ (k .lo .fits) (c .before .ending-word .ensures)
+    (c .scalar-word .ensures))
     ∙ same-words (now (a .bytes)) (w .before .if1 .left) (w .word .result) (c .before .before .before .before .word2 .result)
     (c .before .before .before .word3 .result) (c .before .before .word4 .result)
-    (a .lo) (a .hi) (c .before .marks .result) (c .held .result) (omega (arith, w .word .ok)) (omega (arith, c .before .before .before .before .word2 .ok))
+    (a .lo) (a .hi) (c .before .ending-word .result) (c .scalar-word .result) (omega (arith, w .word .ok)) (omega (arith, c .before .before .before .before .word2 .ok))
     (omega (arith, c .before .before .before .word3 .ok)) (omega (arith, c .before .before .word4 .ok))
-    (k .lo .fits) (k .hi .fits) (omega (arith, c .before .marks .ok)) (omega (arith, c .held .ok))
+    (k .lo .fits) (k .hi .fits) (omega (arith, c .before .ending-word .ok)) (omega (arith, c .scalar-word .ok))
     (w .word .ensures) (c .before .before .before .before .word2 .ensures) (c .before .before .before .word3 .ensures) (c .before .before .word4 .ensures)
 
 returns-2 : tie.Need-returns-2

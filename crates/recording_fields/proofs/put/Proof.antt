@@ -55,11 +55,11 @@ returns c =
     let a = start .args in
     all-written (now (a .out)) (now (a .s)) (p .copy .last .1 .0) (w₁ .put-word .last .0) (w₂ .put-word2 .last .0) (w₃ .put-word3 .last .0)
     (k .put-word4 .last .0)
-    (a .lo) (a .hi) (w₃ .before .marks .result) (k .before .held .result) (p .before .before .before .if1 .taken) (p .before .before .if2 .taken)
+    (a .lo) (a .hi) (w₃ .before .ending-word .result) (k .before .scalar-word .result) (p .before .before .before .if1 .taken) (p .before .before .if2 .taken)
     (p .copy .ensures .1) (w₁ .put-word .ensures) (w₂ .put-word2 .ensures) (w₃ .put-word3 .ensures) (k .put-word4 .ensures)
     ∙ rw (eq-eqb _ _ (p .before .before .before .if1 .taken), eq-eqb _ _ (p .before .before .if2 .taken))
     (ap (λ (l : List ℕ). now (a .s) ++ l) (sym
-    (trace-words (a .lo) (a .hi) (a .refused) (a .kind) (a .bits) _ _ (start .fits .lo .fits) (w₃ .before .marks .ensures) (k .before .held .ensures))))
+    (trace-words (a .lo) (a .hi) (a .refused) (a .kind) (a .bits) _ _ (start .fits .lo .fits) (w₃ .before .ending-word .ensures) (k .before .scalar-word .ensures))))
 
 returns-2 : tie.Need-returns-2
 returns-2 c = rw (eq-eqb _ _ (c .before .if1 .taken), ne-eqb _ _ (c .if2 .left))

@@ -4,7 +4,7 @@ use Prim.Native.Nat.{ℕ}
 use mathlib.Core.Path.{_∙_, ap}
 use borrow.Author.Tests.{ne-eqb}
 use Rattle.standard.specs.Instruction.{i32, f32}
-use Rattle.link_station.specs.Calculate.{held}
+use Rattle.link_station.specs.Calculate.{told}
 use Rattle.link_station.proofs.calculation.scalar_of.Statement.{statement}
 use Rattle.link_station.proofs.calculation.scalar_of.Tie as tie
 
@@ -12,7 +12,7 @@ i64-of-requires : tie.Need-i64-of-requires
 i64-of-requires c κs = search needs
 
 returns : tie.Need-returns
-unfolding held
+unfolding told
 returns c = rw (c .before .if1 .taken) (c .i64-of .ensures)
 
 low32-requires : tie.Need-low32-requires
@@ -22,14 +22,14 @@ f32-of-requires : tie.Need-f32-of-requires
 f32-of-requires c κs = search needs
 
 returns-2 : tie.Need-returns-2
-unfolding held
+unfolding told
 returns-2 c = rw (c .before .before .if2 .taken) (c .f32-of .ensures ∙ ap (λ (n : ℕ). (f32, n)) (c .before .low32 .ensures))
 
 f64-of-requires : tie.Need-f64-of-requires
 f64-of-requires c κs = search needs
 
 returns-3 : tie.Need-returns-3
-unfolding held
+unfolding told
 returns-3 c = rw (c .before .if3 .taken) (c .f64-of .ensures)
 
 low32-requires-2 : tie.Need-low32-requires-2
@@ -39,7 +39,7 @@ of-bits-requires : tie.Need-of-bits-requires
 of-bits-requires c κs = search needs
 
 returns-4 : tie.Need-returns-4
-unfolding held
+unfolding told
 returns-4 c =
     rw (ne-eqb _ _ (c .before .before .before .before .if1 .left), ne-eqb _ _ (c .before .before .before .if2 .left), ne-eqb _ _ (c .before .before .if3 .left))
     (c .of-bits .ensures ∙ ap (λ (n : ℕ). (i32, n)) (c .before .low322 .ensures))
