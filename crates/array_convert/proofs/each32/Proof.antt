@@ -35,4 +35,7 @@ returns c = rw (c .before .before .before .lane32 .ensures, c .before .before .l
     (ap (map _) (all-elements (c .before .before .before .before .args .t2) 4 (search needs)))
 
 pub each32-spec : {M : Type 1} → statement M
-each32-spec = tie.close (tie.spec array-read-lane32 lane32-requires array-read-lane32-2 lane32-requires-2 array-read-lane32-3 lane32-requires-3 array-read-lane32-4 lane32-requires-4 returns)
+each32-spec =
+    tie.close
+    (tie.spec array-read-lane32 lane32-requires array-read-lane32-2 lane32-requires-2 array-read-lane32-3 lane32-requires-3 array-read-lane32-4
+    lane32-requires-4 returns)

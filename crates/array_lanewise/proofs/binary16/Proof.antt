@@ -171,4 +171,11 @@ returns-25 : tie.Need-returns-25
 returns-25 c = no-binary binaries16 _ _ _ (past _ 24 (c .match .rest))
 
 pub binary16-spec : {M : Type 1} → statement M
-binary16-spec = tie.close (tie.spec wrapping-add-u16-requires sub16-requires mul16-requires pick16-requires pick16-requires-2 lt-s16-requires pick16-requires-3 lt-s16-requires-2 pick16-requires-4 le-s16-requires pick16-requires-5 le-s16-requires-2 pick16-requires-6 lt-s16-requires-3 pick16-requires-7 pick16-requires-8 lt-s16-requires-4 pick16-requires-9 pick16-requires-10 pick16-requires-11 pick16-requires-12 pick16-requires-13 pick16-requires-14 add-sat-s16-requires add-sat-u16-requires sub-sat-s16-requires sub-sat-u16-requires avgr-u16-requires q15mulr-sat-s16-requires dot16-requires returns returns-2 returns-3 returns-4 returns-5 returns-6 returns-7 returns-8 returns-9 returns-10 returns-11 returns-12 returns-13 returns-14 returns-15 returns-16 returns-17 returns-18 returns-19 returns-20 returns-21 returns-22 returns-23 returns-24 returns-25)
+binary16-spec =
+    tie.close
+    (tie.spec wrapping-add-u16-requires sub16-requires mul16-requires pick16-requires pick16-requires-2 lt-s16-requires pick16-requires-3
+    lt-s16-requires-2 pick16-requires-4 le-s16-requires pick16-requires-5 le-s16-requires-2 pick16-requires-6 lt-s16-requires-3 pick16-requires-7
+    pick16-requires-8 lt-s16-requires-4 pick16-requires-9 pick16-requires-10 pick16-requires-11 pick16-requires-12 pick16-requires-13
+    pick16-requires-14 add-sat-s16-requires add-sat-u16-requires sub-sat-s16-requires sub-sat-u16-requires avgr-u16-requires q15mulr-sat-s16-requires
+    dot16-requires returns returns-2 returns-3 returns-4 returns-5 returns-6 returns-7 returns-8 returns-9 returns-10 returns-11 returns-12 returns-13
+    returns-14 returns-15 returns-16 returns-17 returns-18 returns-19 returns-20 returns-21 returns-22 returns-23 returns-24 returns-25)

@@ -135,4 +135,10 @@ returns-19 : tie.Need-returns-19
 returns-19 c = no-binary binaries32 _ _ _ (past _ 18 (c .match .rest))
 
 pub binary32-spec : {M : Type 1} → statement M
-binary32-spec = tie.close (tie.spec wrapping-add-u32-requires sub32-requires mul32-requires pick32-requires pick32-requires-2 lt-s32-requires pick32-requires-3 lt-s32-requires-2 pick32-requires-4 le-s32-requires pick32-requires-5 le-s32-requires-2 pick32-requires-6 lt-s32-requires-3 pick32-requires-7 pick32-requires-8 lt-s32-requires-4 pick32-requires-9 pick32-requires-10 pick32-requires-11 pick32-requires-12 pick32-requires-13 pick32-requires-14 dot32-requires returns returns-2 returns-3 returns-4 returns-5 returns-6 returns-7 returns-8 returns-9 returns-10 returns-11 returns-12 returns-13 returns-14 returns-15 returns-16 returns-17 returns-18 returns-19)
+binary32-spec =
+    tie.close
+    (tie.spec wrapping-add-u32-requires sub32-requires mul32-requires pick32-requires pick32-requires-2 lt-s32-requires pick32-requires-3
+    lt-s32-requires-2 pick32-requires-4 le-s32-requires pick32-requires-5 le-s32-requires-2 pick32-requires-6 lt-s32-requires-3 pick32-requires-7
+    pick32-requires-8 lt-s32-requires-4 pick32-requires-9 pick32-requires-10 pick32-requires-11 pick32-requires-12 pick32-requires-13
+    pick32-requires-14 dot32-requires returns returns-2 returns-3 returns-4 returns-5 returns-6 returns-7 returns-8 returns-9 returns-10 returns-11
+    returns-12 returns-13 returns-14 returns-15 returns-16 returns-17 returns-18 returns-19)

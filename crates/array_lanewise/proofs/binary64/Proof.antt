@@ -76,4 +76,8 @@ returns-10 : tie.Need-returns-10
 returns-10 c = no-binary (take 9 (binaries 64)) _ _ _ (past _ 9 (c .match .rest))
 
 pub binary64-spec : {M : Type 1} → statement M
-binary64-spec = tie.close (tie.spec wrapping-add-u64-requires sub64-requires mul64-requires pick64-requires pick64-requires-2 lt-s64-requires pick64-requires-3 lt-s64-requires-2 pick64-requires-4 le-s64-requires pick64-requires-5 le-s64-requires-2 pick64-requires-6 returns returns-2 returns-3 returns-4 returns-5 returns-6 returns-7 returns-8 returns-9 returns-10)
+binary64-spec =
+    tie.close
+    (tie.spec wrapping-add-u64-requires sub64-requires mul64-requires pick64-requires pick64-requires-2 lt-s64-requires pick64-requires-3
+    lt-s64-requires-2 pick64-requires-4 le-s64-requires pick64-requires-5 le-s64-requires-2 pick64-requires-6 returns returns-2 returns-3 returns-4
+    returns-5 returns-6 returns-7 returns-8 returns-9 returns-10)

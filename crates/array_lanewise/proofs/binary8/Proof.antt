@@ -160,4 +160,11 @@ returns-23 : tie.Need-returns-23
 returns-23 c = no-binary (take 22 (binaries 8)) _ _ _ (past _ 22 (c .match .rest))
 
 pub binary8-spec : {M : Type 1} → statement M
-binary8-spec = tie.close (tie.spec wrapping-add-u8-requires sub8-requires mul8-requires pick8-requires pick8-requires-2 lt-s8-requires pick8-requires-3 lt-s8-requires-2 pick8-requires-4 le-s8-requires pick8-requires-5 le-s8-requires-2 pick8-requires-6 lt-s8-requires-3 pick8-requires-7 pick8-requires-8 lt-s8-requires-4 pick8-requires-9 pick8-requires-10 pick8-requires-11 pick8-requires-12 pick8-requires-13 pick8-requires-14 add-sat-s8-requires add-sat-u8-requires sub-sat-s8-requires sub-sat-u8-requires avgr-u8-requires returns returns-2 returns-3 returns-4 returns-5 returns-6 returns-7 returns-8 returns-9 returns-10 returns-11 returns-12 returns-13 returns-14 returns-15 returns-16 returns-17 returns-18 returns-19 returns-20 returns-21 returns-22 returns-23)
+binary8-spec =
+    tie.close
+    (tie.spec wrapping-add-u8-requires sub8-requires mul8-requires pick8-requires pick8-requires-2 lt-s8-requires pick8-requires-3 lt-s8-requires-2
+    pick8-requires-4 le-s8-requires pick8-requires-5 le-s8-requires-2 pick8-requires-6 lt-s8-requires-3 pick8-requires-7 pick8-requires-8
+    lt-s8-requires-4 pick8-requires-9 pick8-requires-10 pick8-requires-11 pick8-requires-12 pick8-requires-13 pick8-requires-14 add-sat-s8-requires
+    add-sat-u8-requires sub-sat-s8-requires sub-sat-u8-requires avgr-u8-requires returns returns-2 returns-3 returns-4 returns-5 returns-6 returns-7
+    returns-8 returns-9 returns-10 returns-11 returns-12 returns-13 returns-14 returns-15 returns-16 returns-17 returns-18 returns-19 returns-20
+    returns-21 returns-22 returns-23)

@@ -51,4 +51,7 @@ returns-8 : tie.Need-returns-8
 returns-8 c = no-unary (unaries16 (c .before .args .count)) _ _ (past _ 7 (c .match .rest))
 
 pub unary16-spec : {M : Type 1} → statement M
-unary16-spec = tie.close (tie.spec neg16-requires abs16-requires shl16-requires shr-s16-requires shr-u16-requires extadd-s16-requires extadd-u16-requires returns returns-2 returns-3 returns-4 returns-5 returns-6 returns-7 returns-8)
+unary16-spec =
+    tie.close
+    (tie.spec neg16-requires abs16-requires shl16-requires shr-s16-requires shr-u16-requires extadd-s16-requires extadd-u16-requires returns returns-2
+    returns-3 returns-4 returns-5 returns-6 returns-7 returns-8)

@@ -51,4 +51,7 @@ returns-8 : tie.Need-returns-8
 returns-8 c = no-unary (unaries32 (c .before .args .count)) _ _ (past _ 7 (c .match .rest))
 
 pub unary32-spec : {M : Type 1} → statement M
-unary32-spec = tie.close (tie.spec neg32-requires abs32-requires shl32-requires shr-s32-requires shr-u32-requires extadd-s32-requires extadd-u32-requires returns returns-2 returns-3 returns-4 returns-5 returns-6 returns-7 returns-8)
+unary32-spec =
+    tie.close
+    (tie.spec neg32-requires abs32-requires shl32-requires shr-s32-requires shr-u32-requires extadd-s32-requires extadd-u32-requires returns returns-2
+    returns-3 returns-4 returns-5 returns-6 returns-7 returns-8)

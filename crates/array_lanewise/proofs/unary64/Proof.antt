@@ -39,4 +39,6 @@ returns-6 : tie.Need-returns-6
 returns-6 c = no-unary (unaries 64 (c .before .args .count)) _ _ (past _ 5 (c .match .rest))
 
 pub unary64-spec : {M : Type 1} → statement M
-unary64-spec = tie.close (tie.spec neg64-requires abs64-requires shl64-requires shr-s64-requires shr-u64-requires returns returns-2 returns-3 returns-4 returns-5 returns-6)
+unary64-spec =
+    tie.close
+    (tie.spec neg64-requires abs64-requires shl64-requires shr-s64-requires shr-u64-requires returns returns-2 returns-3 returns-4 returns-5 returns-6)

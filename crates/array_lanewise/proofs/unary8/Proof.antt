@@ -45,4 +45,7 @@ returns-7 : tie.Need-returns-7
 returns-7 c = no-unary (unaries8 (c .before .args .count)) _ _ (past _ 6 (c .match .rest))
 
 pub unary8-spec : {M : Type 1} → statement M
-unary8-spec = tie.close (tie.spec neg8-requires abs8-requires shl8-requires shr-s8-requires shr-u8-requires popcnt8-requires returns returns-2 returns-3 returns-4 returns-5 returns-6 returns-7)
+unary8-spec =
+    tie.close
+    (tie.spec neg8-requires abs8-requires shl8-requires shr-s8-requires shr-u8-requires popcnt8-requires returns returns-2 returns-3 returns-4
+    returns-5 returns-6 returns-7)

@@ -83,4 +83,8 @@ returns-9 : tie.Need-returns-9
 returns-9 c = no-binary (float-binaries binary32) _ _ _ (past _ 8 (c .match .rest))
 
 pub float-binary32-spec : {M : Type 1} → statement M
-float-binary32-spec = tie.close (tie.spec feq32-requires pick32-requires feq32-requires-2 pick32-requires-2 flt32-requires pick32-requires-3 flt32-requires-2 pick32-requires-4 fle32-requires pick32-requires-5 fle32-requires-2 pick32-requires-6 flt32-requires-3 pick32-requires-7 flt32-requires-4 pick32-requires-8 returns returns-2 returns-3 returns-4 returns-5 returns-6 returns-7 returns-8 returns-9)
+float-binary32-spec =
+    tie.close
+    (tie.spec feq32-requires pick32-requires feq32-requires-2 pick32-requires-2 flt32-requires pick32-requires-3 flt32-requires-2 pick32-requires-4
+    fle32-requires pick32-requires-5 fle32-requires-2 pick32-requires-6 flt32-requires-3 pick32-requires-7 flt32-requires-4 pick32-requires-8 returns
+    returns-2 returns-3 returns-4 returns-5 returns-6 returns-7 returns-8 returns-9)

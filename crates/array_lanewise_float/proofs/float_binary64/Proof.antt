@@ -83,4 +83,8 @@ returns-9 : tie.Need-returns-9
 returns-9 c = no-binary (float-binaries binary64) _ _ _ (past _ 8 (c .match .rest))
 
 pub float-binary64-spec : {M : Type 1} → statement M
-float-binary64-spec = tie.close (tie.spec feq64-requires pick64-requires feq64-requires-2 pick64-requires-2 flt64-requires pick64-requires-3 flt64-requires-2 pick64-requires-4 fle64-requires pick64-requires-5 fle64-requires-2 pick64-requires-6 flt64-requires-3 pick64-requires-7 flt64-requires-4 pick64-requires-8 returns returns-2 returns-3 returns-4 returns-5 returns-6 returns-7 returns-8 returns-9)
+float-binary64-spec =
+    tie.close
+    (tie.spec feq64-requires pick64-requires feq64-requires-2 pick64-requires-2 flt64-requires pick64-requires-3 flt64-requires-2 pick64-requires-4
+    fle64-requires pick64-requires-5 fle64-requires-2 pick64-requires-6 flt64-requires-3 pick64-requires-7 flt64-requires-4 pick64-requires-8 returns
+    returns-2 returns-3 returns-4 returns-5 returns-6 returns-7 returns-8 returns-9)

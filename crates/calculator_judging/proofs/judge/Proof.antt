@@ -65,5 +65,8 @@ pub judge-spec : {M : Type 1} → statement M
 judge-spec =
     tie.close
     (tie.spec
-    nothing nothing nothing nothing nothing (λ c. search needs) (λ c. search needs) nothing (λ c. search needs) nothing nothing nothing nothing (λ c. search needs) nothing nothing (λ c. search needs) nothing nothing nothing (λ c. search needs) nothing nothing nothing nothing (λ c. search needs) nothing nothing nothing (λ c. search needs) nothing (λ c. search needs) nothing nothing (λ c. search needs) nothing nothing (λ c. search needs) nothing nothing nothing nothing
+    nothing nothing nothing nothing nothing (λ c. search needs) (λ c. search needs) nothing (λ c. search needs) nothing nothing nothing nothing
+    (λ c. search needs) nothing nothing (λ c. search needs) nothing nothing nothing (λ c. search needs) nothing nothing nothing nothing
+    (λ c. search needs) nothing nothing nothing (λ c. search needs) nothing (λ c. search needs) nothing nothing (λ c. search needs) nothing nothing
+    (λ c. search needs) nothing nothing nothing nothing
     returns returns-2 returns-3 returns-4 returns-5 returns-6 returns-7 returns-8 returns-9 returns-10 returns-11)

@@ -19,7 +19,9 @@ pub make-spec : {M : Type 1} → statement M
 make-spec =
     tie.close
     (tie.spec
-    nothing (λ c. search needs) (λ c. search needs) nothing nothing (λ c. search needs) nothing nothing nothing nothing (λ c. search needs) nothing (λ c. search needs) nothing nothing (λ c. search needs) nothing nothing nothing at-shift nothing nothing (λ c. search needs) (λ c. search needs) nothing (λ c. search needs) (λ c. search needs) nothing nothing
+    nothing (λ c. search needs) (λ c. search needs) nothing nothing (λ c. search needs) nothing nothing nothing nothing (λ c. search needs) nothing
+    (λ c. search needs) nothing nothing (λ c. search needs) nothing nothing nothing at-shift nothing nothing (λ c. search needs) (λ c. search needs)
+    nothing (λ c. search needs) (λ c. search needs) nothing nothing
     (λ c. rw (c .enum-told .given .1) (c .before .before .source-a .ensures))
     (λ c. rw (c .before .before .enum-told2 .given .1) (c .join8 .ensures ∙ ap (joined 8) (c .before .indices .ensures)))
     (λ c.

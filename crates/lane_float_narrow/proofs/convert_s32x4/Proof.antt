@@ -99,4 +99,8 @@ returns c =
     ∙ front (convert-s binary32) a (replicate 20 0) (search needs)
 
 pub convert-s32x4-spec : {M : Type 1} → statement M
-convert-s32x4-spec = tie.close (tie.spec Inv-loop μ-loop sizes-requires places-requires places-requires-2 tops-requires places-requires-3 loop-holds mul-by-top-s array-read-by-top-s mul-by-top-s-2 array-read-by-top-s-2 mul-by-top-s-3 array-read-by-top-s-3 by-top-s-requires mul-r array-write-r add-i loop-less loop-again lanes-requires returns)
+convert-s32x4-spec =
+    tie.close
+    (tie.spec Inv-loop μ-loop sizes-requires places-requires places-requires-2 tops-requires places-requires-3 loop-holds mul-by-top-s
+    array-read-by-top-s mul-by-top-s-2 array-read-by-top-s-2 mul-by-top-s-3 array-read-by-top-s-3 by-top-s-requires mul-r array-write-r add-i
+    loop-less loop-again lanes-requires returns)

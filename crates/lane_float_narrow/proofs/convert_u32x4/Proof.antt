@@ -80,4 +80,7 @@ returns c =
     ∙ front (convert-u binary32) a (replicate 20 0) (search needs)
 
 pub convert-u32x4-spec : {M : Type 1} → statement M
-convert-u32x4-spec = tie.close (tie.spec Inv-loop μ-loop places-requires tops-requires places-requires-2 loop-holds mul-by-top array-read-by-top mul-by-top-2 array-read-by-top-2 by-top-requires mul-r array-write-r add-i loop-less loop-again lanes-requires returns)
+convert-u32x4-spec =
+    tie.close
+    (tie.spec Inv-loop μ-loop places-requires tops-requires places-requires-2 loop-holds mul-by-top array-read-by-top mul-by-top-2 array-read-by-top-2
+    by-top-requires mul-r array-write-r add-i loop-less loop-again lanes-requires returns)

@@ -146,4 +146,7 @@ returns-5 c =
     (le-of-suc-le-suc (under 1151 (bits' c) (c .before .before .if3 .left)))
 
 pub demote-spec : {M : Type 1} → statement M
-demote-spec = tie.close (tie.spec cast-high sub-sign returns add-pick32 pick32-requires returns-2 add-result returns-3 cast-field add-digits sub-nearest-shift nearest-shift-requires cast-result add-result-2 returns-4 mul-result nearest-shift-requires-2 add-result-3 cast-result-2 add-result-4 returns-5)
+demote-spec =
+    tie.close
+    (tie.spec cast-high sub-sign returns add-pick32 pick32-requires returns-2 add-result returns-3 cast-field add-digits sub-nearest-shift
+    nearest-shift-requires cast-result add-result-2 returns-4 mul-result nearest-shift-requires-2 add-result-3 cast-result-2 add-result-4 returns-5)

@@ -86,4 +86,8 @@ returns c =
     ∙ ap (map _) (all-elements (c .before .before .args .t1) 4 (search needs))
 
 pub sizes-spec : {M : Type 1} → statement M
-sizes-spec = tie.close (tie.spec Inv-loop μ-loop array-read-x array-write-x array-read-x-2 array-write-x-2 array-read-x-3 array-write-x-3 array-read-x-4 array-write-x-4 loop-holds mul-magnitude array-read-magnitude magnitude-requires mul-r array-write-r add-i loop-less loop-again array-read-t8 array-read-t36 array-read-t39 array-read-t42 returns)
+sizes-spec =
+    tie.close
+    (tie.spec Inv-loop μ-loop array-read-x array-write-x array-read-x-2 array-write-x-2 array-read-x-3 array-write-x-3 array-read-x-4 array-write-x-4
+    loop-holds mul-magnitude array-read-magnitude magnitude-requires mul-r array-write-r add-i loop-less loop-again array-read-t8 array-read-t36
+    array-read-t39 array-read-t42 returns)

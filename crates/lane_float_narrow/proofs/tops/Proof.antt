@@ -36,4 +36,6 @@ returns c =
     (ap (map _) (all-elements (c .before .before .before .before .args .t1) 4 (search needs)))
 
 pub tops-spec : {M : Type 1} → statement M
-tops-spec = tie.close (tie.spec array-read-top top-requires array-read-top-2 top-requires-2 array-read-top-3 top-requires-3 array-read-top-4 top-requires-4 returns)
+tops-spec =
+    tie.close
+    (tie.spec array-read-top top-requires array-read-top-2 top-requires-2 array-read-top-3 top-requires-3 array-read-top-4 top-requires-4 returns)

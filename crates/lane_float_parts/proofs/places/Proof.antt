@@ -36,4 +36,6 @@ returns : tie.Need-returns
 returns c = ap (λ (l : List ℕ). l ++ replicate 20 0) (all-elements (c .args .t1) 4 (search needs))
 
 pub places-spec : {M : Type 1} → statement M
-places-spec = tie.close (tie.spec array-read-r array-write-r array-read-r-2 array-write-r-2 array-read-r-3 array-write-r-3 array-read-r-4 array-write-r-4 returns)
+places-spec =
+    tie.close
+    (tie.spec array-read-r array-write-r array-read-r-2 array-write-r-2 array-read-r-3 array-write-r-3 array-read-r-4 array-write-r-4 returns)

@@ -40,4 +40,6 @@ returns c =
     (c .before .before .wrapping-sub-u32 .ensures)
 
 pub trunc-sat-s32-spec : {M : Type 1} → statement M
-trunc-sat-s32-spec = tie.close (tie.spec sub-down mul-part add-part shr-part pick32-requires wrapping-sub-u32-requires pick32-requires-2 pick32-requires-3 returns)
+trunc-sat-s32-spec =
+    tie.close
+    (tie.spec sub-down mul-part add-part shr-part pick32-requires wrapping-sub-u32-requires pick32-requires-2 pick32-requires-3 returns)

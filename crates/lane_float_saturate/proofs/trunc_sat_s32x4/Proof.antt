@@ -65,4 +65,7 @@ returns c =
     ∙ front (trunc-sat-s binary32) a (replicate 20 0) (search needs)
 
 pub trunc-sat-s32x4-spec : {M : Type 1} → statement M
-trunc-sat-s32x4-spec = tie.close (tie.spec Inv-loop μ-loop places-requires loop-holds mul-trunc-sat-s32 array-read-trunc-sat-s32 trunc-sat-s32-requires mul-r array-write-r add-i loop-less loop-again lanes-requires returns)
+trunc-sat-s32x4-spec =
+    tie.close
+    (tie.spec Inv-loop μ-loop places-requires loop-holds mul-trunc-sat-s32 array-read-trunc-sat-s32 trunc-sat-s32-requires mul-r array-write-r add-i
+    loop-less loop-again lanes-requires returns)

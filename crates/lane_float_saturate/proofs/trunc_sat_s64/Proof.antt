@@ -84,4 +84,7 @@ returns-4 c = c .pick323 .ensures ∙ with-sign (c .before .before .before .befo
     (part-is (c .before .before .before .before .before .args .bits) (field-from (c .before)) (field-under (c .before)))
 
 pub trunc-sat-s64-spec : {M : Type 1} → statement M
-trunc-sat-s64-spec = tie.close (tie.spec cast-high returns pick32-requires pick32-requires-2 returns-2 returns-3 add-digits cast-part sub-part shr-part cast-part-2 sub-pick32 add-pick32 pick32-requires-3 returns-4)
+trunc-sat-s64-spec =
+    tie.close
+    (tie.spec cast-high returns pick32-requires pick32-requires-2 returns-2 returns-3 add-digits cast-part sub-part shr-part cast-part-2 sub-pick32
+    add-pick32 pick32-requires-3 returns-4)

@@ -65,4 +65,7 @@ returns c =
     ∙ front (trunc-sat-u binary32) a (replicate 20 0) (search needs)
 
 pub trunc-sat-u32x4-spec : {M : Type 1} → statement M
-trunc-sat-u32x4-spec = tie.close (tie.spec Inv-loop μ-loop places-requires loop-holds mul-trunc-sat-u32 array-read-trunc-sat-u32 trunc-sat-u32-requires mul-r array-write-r add-i loop-less loop-again lanes-requires returns)
+trunc-sat-u32x4-spec =
+    tie.close
+    (tie.spec Inv-loop μ-loop places-requires loop-holds mul-trunc-sat-u32 array-read-trunc-sat-u32 trunc-sat-u32-requires mul-r array-write-r add-i
+    loop-less loop-again lanes-requires returns)

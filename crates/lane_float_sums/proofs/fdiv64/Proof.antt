@@ -64,4 +64,6 @@ returns c = quotient (c .before .before .before .before .args .a) (c .before .be
     (c .before .pick642 .ensures) (c .pattern64 .ensures)
 
 pub fdiv64-spec : {M : Type 1} → statement M
-fdiv64-spec = tie.close (tie.spec ordered64-requires pick64-requires float-from-bits-pattern64 pick64-requires-2 float-from-bits-pattern64-2 pattern64-requires returns)
+fdiv64-spec =
+    tie.close
+    (tie.spec ordered64-requires pick64-requires float-from-bits-pattern64 pick64-requires-2 float-from-bits-pattern64-2 pattern64-requires returns)

@@ -100,4 +100,7 @@ returns-4 c =
     ∙ infinity-kept b (all b (c .if3 .left)) (c .before .if2 .left)
 
 pub promote-spec : {M : Type 1} → statement M
-promote-spec = tie.close (tie.spec sub-sign cast-sign mul-sign add-if1 cast-result mul-result add-result add-result-2 returns returns-2 quotient-requires add-result-3 add-result-4 returns-3 returns-4)
+promote-spec =
+    tie.close
+    (tie.spec sub-sign cast-sign mul-sign add-if1 cast-result mul-result add-result add-result-2 returns returns-2 quotient-requires add-result-3
+    add-result-4 returns-3 returns-4)

@@ -54,4 +54,6 @@ unsigned16-requires-2 : tie.Need-unsigned16-requires-2
 unsigned16-requires-2 c κs = search needs
 
 pub q15mulr-sat-s16-spec : {M : Type 1} → statement M
-q15mulr-sat-s16-spec = tie.close (tie.spec wide16-requires wide16-requires-2 mul-rounded add-rounded unsigned16-requires cast-unsigned16 unsigned16-requires-2 returns returns-2)
+q15mulr-sat-s16-spec =
+    tie.close
+    (tie.spec wide16-requires wide16-requires-2 mul-rounded add-rounded unsigned16-requires cast-unsigned16 unsigned16-requires-2 returns returns-2)

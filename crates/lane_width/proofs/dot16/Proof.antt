@@ -46,4 +46,7 @@ returns c =
     (c .before .mul162 .ensures ∙ ap₂ (imul 16) (c .before .before .before .extend83 .ensures) (c .before .before .extend84 .ensures))
 
 pub dot16-spec : {M : Type 1} → statement M
-dot16-spec = tie.close (tie.spec cast-extend8 extend8-requires cast-extend8-2 extend8-requires-2 mul16-requires cast-extend8-3 extend8-requires-3 cast-extend8-4 extend8-requires-4 mul16-requires-2 sum16-requires returns)
+dot16-spec =
+    tie.close
+    (tie.spec cast-extend8 extend8-requires cast-extend8-2 extend8-requires-2 mul16-requires cast-extend8-3 extend8-requires-3 cast-extend8-4
+    extend8-requires-4 mul16-requires-2 sum16-requires returns)

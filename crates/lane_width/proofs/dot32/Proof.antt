@@ -47,4 +47,7 @@ returns c =
     (c .before .mul322 .ensures ∙ ap₂ (imul 32) (c .before .before .before .extend-s163 .ensures) (c .before .before .extend-s164 .ensures))
 
 pub dot32-spec : {M : Type 1} → statement M
-dot32-spec = tie.close (tie.spec cast-extend-s16 extend-s16-requires cast-extend-s16-2 extend-s16-requires-2 mul32-requires cast-extend-s16-3 extend-s16-requires-3 cast-extend-s16-4 extend-s16-requires-4 mul32-requires-2 wrapping-add-u32-requires returns)
+dot32-spec =
+    tie.close
+    (tie.spec cast-extend-s16 extend-s16-requires cast-extend-s16-2 extend-s16-requires-2 mul32-requires cast-extend-s16-3 extend-s16-requires-3
+    cast-extend-s16-4 extend-s16-requires-4 mul32-requires-2 wrapping-add-u32-requires returns)

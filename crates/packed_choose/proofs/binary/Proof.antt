@@ -93,4 +93,8 @@ returns-15 : tie.Need-returns-15
 returns-15 c = no-binary _ _ _ (past _ 14 (c .match .rest))
 
 pub binary-spec : {M : Type 1} → statement M
-binary-spec = tie.close (tie.spec add8-requires add16-requires add32-requires add64-requires sub8-requires sub16-requires sub32-requires sub64-requires eq8-requires eq16-requires eq32-requires eq64-requires avgr-u8-requires avgr-u16-requires returns returns-2 returns-3 returns-4 returns-5 returns-6 returns-7 returns-8 returns-9 returns-10 returns-11 returns-12 returns-13 returns-14 returns-15)
+binary-spec =
+    tie.close
+    (tie.spec add8-requires add16-requires add32-requires add64-requires sub8-requires sub16-requires sub32-requires sub64-requires eq8-requires
+    eq16-requires eq32-requires eq64-requires avgr-u8-requires avgr-u16-requires returns returns-2 returns-3 returns-4 returns-5 returns-6 returns-7
+    returns-8 returns-9 returns-10 returns-11 returns-12 returns-13 returns-14 returns-15)

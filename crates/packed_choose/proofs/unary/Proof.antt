@@ -87,4 +87,8 @@ returns-14 : tie.Need-returns-14
 returns-14 c = no-unary _ (c .before .args .count) _ (past _ 13 (c .match .rest))
 
 pub unary-spec : {M : Type 1} → statement M
-unary-spec = tie.close (tie.spec neg8-requires neg16-requires neg32-requires neg64-requires shl8-requires shl16-requires shl32-requires shl64-requires shr-u8-requires shr-u16-requires shr-u32-requires shr-u64-requires popcnt8-requires returns returns-2 returns-3 returns-4 returns-5 returns-6 returns-7 returns-8 returns-9 returns-10 returns-11 returns-12 returns-13 returns-14)
+unary-spec =
+    tie.close
+    (tie.spec neg8-requires neg16-requires neg32-requires neg64-requires shl8-requires shl16-requires shl32-requires shl64-requires shr-u8-requires
+    shr-u16-requires shr-u32-requires shr-u64-requires popcnt8-requires returns returns-2 returns-3 returns-4 returns-5 returns-6 returns-7 returns-8
+    returns-9 returns-10 returns-11 returns-12 returns-13 returns-14)

@@ -86,4 +86,7 @@ returns c =
     (joined-64 (c .before .before .before .args .c) (c .before .before .before .args .d) refl)
 
 pub pairs64-spec : {M : Type 1} → statement M
-pairs64-spec = tie.close (tie.spec Inv-loop μ-loop array-write-x array-write-x-2 array-write-y array-write-y-2 loop-holds mul-arithmetic64 array-read-arithmetic64 mul-arithmetic64-2 array-read-arithmetic64-2 arithmetic64-requires mul-x array-write-x-3 add-i loop-less loop-again lanes64-requires returns)
+pairs64-spec =
+    tie.close
+    (tie.spec Inv-loop μ-loop array-write-x array-write-x-2 array-write-y array-write-y-2 loop-holds mul-arithmetic64 array-read-arithmetic64
+    mul-arithmetic64-2 array-read-arithmetic64-2 arithmetic64-requires mul-x array-write-x-3 add-i loop-less loop-again lanes64-requires returns)

@@ -28,4 +28,7 @@ returns : tie.Need-returns
 returns c = c .wrapping-add-u642 .ensures ∙ low-product _ _ _ (c .before .wrapping-add-u64 .ensures)
 
 pub mul64-spec : {M : Type 1} → statement M
-mul64-spec = tie.close (tie.spec mul-wrapping-add-u64 mul-wrapping-add-u64-2 wrapping-add-u64-requires mul-wrapping-add-u64-3 mul-wrapping-add-u64-4 wrapping-add-u64-requires-2 returns)
+mul64-spec =
+    tie.close
+    (tie.spec mul-wrapping-add-u64 mul-wrapping-add-u64-2 wrapping-add-u64-requires mul-wrapping-add-u64-3 mul-wrapping-add-u64-4
+    wrapping-add-u64-requires-2 returns)

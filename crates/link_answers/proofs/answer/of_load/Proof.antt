@@ -33,4 +33,6 @@ unfolding access-numbers
 returns-3 c = rw (c .before .before .answer3 .given .1) (c .nothing-loaded2 .ensures)
 
 pub of-load-spec : {M : Type 1} → statement M
-of-load-spec = tie.close (tie.spec enum-known-answer enum-known-answer-2 nothing-loaded-requires enum-known-answer-3 nothing-loaded-requires-2 returns returns-2 returns-3)
+of-load-spec =
+    tie.close
+    (tie.spec enum-known-answer enum-known-answer-2 nothing-loaded-requires enum-known-answer-3 nothing-loaded-requires-2 returns returns-2 returns-3)

@@ -45,4 +45,6 @@ returns-4 c =
     (c .of-bits .ensures ∙ ap (λ (n : ℕ). (i32, n)) (c .before .low322 .ensures))
 
 pub scalar-of-spec : {M : Type 1} → statement M
-scalar-of-spec = tie.close (tie.spec i64-of-requires returns low32-requires f32-of-requires returns-2 f64-of-requires returns-3 low32-requires-2 of-bits-requires returns-4)
+scalar-of-spec =
+    tie.close
+    (tie.spec i64-of-requires returns low32-requires f32-of-requires returns-2 f64-of-requires returns-3 low32-requires-2 of-bits-requires returns-4)

@@ -65,4 +65,7 @@ returns c = c .from-places32 .ensures ∙ done 32 60 _ _ _ (c .before .before .b
     (c .before .before .before .places322 .ensures) (c .before .before .loop .i) (search needs) (c .before .before .loop .inv .1)
 
 pub arithmetic32-spec : {M : Type 1} → statement M
-arithmetic32-spec = tie.close (tie.spec Inv-loop μ-loop places32-requires places32-requires-2 loop-holds mul-arithmetic32 array-read-arithmetic32 mul-arithmetic32-2 array-read-arithmetic32-2 arithmetic32-requires mul-a array-write-a add-i loop-less loop-again from-places32-requires returns)
+arithmetic32-spec =
+    tie.close
+    (tie.spec Inv-loop μ-loop places32-requires places32-requires-2 loop-holds mul-arithmetic32 array-read-arithmetic32 mul-arithmetic32-2
+    array-read-arithmetic32-2 arithmetic32-requires mul-a array-write-a add-i loop-less loop-again from-places32-requires returns)

@@ -64,4 +64,7 @@ returns c = c .from-places16 .ensures ∙ done 16 56 _ _ _ (c .before .before .b
     (c .before .before .before .places162 .ensures) (c .before .before .loop .i) (search needs) (c .before .before .loop .inv .1)
 
 pub binary16-spec : {M : Type 1} → statement M
-binary16-spec = tie.close (tie.spec Inv-loop μ-loop places16-requires places16-requires-2 loop-holds mul-binary16 array-read-binary16 mul-binary16-2 array-read-binary16-2 binary16-requires mul-a array-write-a add-i loop-less loop-again from-places16-requires returns)
+binary16-spec =
+    tie.close
+    (tie.spec Inv-loop μ-loop places16-requires places16-requires-2 loop-holds mul-binary16 array-read-binary16 mul-binary16-2 array-read-binary16-2
+    binary16-requires mul-a array-write-a add-i loop-less loop-again from-places16-requires returns)

@@ -56,4 +56,7 @@ returns c = c .from-places8 .ensures ∙ done 8 48 _ _ _ (c .before .before .bef
     (c .before .before .loop .i) (search needs) (c .before .before .loop .inv .1)
 
 pub binary8-spec : {M : Type 1} → statement M
-binary8-spec = tie.close (tie.spec Inv-loop μ-loop places8-requires places8-requires-2 loop-holds array-read-binary8 array-read-binary8-2 binary8-requires array-write-a add-i loop-less loop-again from-places8-requires returns)
+binary8-spec =
+    tie.close
+    (tie.spec Inv-loop μ-loop places8-requires places8-requires-2 loop-holds array-read-binary8 array-read-binary8-2 binary8-requires array-write-a
+    add-i loop-less loop-again from-places8-requires returns)

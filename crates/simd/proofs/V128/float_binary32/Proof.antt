@@ -65,4 +65,7 @@ returns c = c .from-places32 .ensures ∙ done 32 60 _ _ _ (c .before .before .b
     (c .before .before .before .places322 .ensures) (c .before .before .loop .i) (search needs) (c .before .before .loop .inv .1)
 
 pub float-binary32-spec : {M : Type 1} → statement M
-float-binary32-spec = tie.close (tie.spec Inv-loop μ-loop places32-requires places32-requires-2 loop-holds mul-float-binary32 array-read-float-binary32 mul-float-binary32-2 array-read-float-binary32-2 float-binary32-requires mul-a array-write-a add-i loop-less loop-again from-places32-requires returns)
+float-binary32-spec =
+    tie.close
+    (tie.spec Inv-loop μ-loop places32-requires places32-requires-2 loop-holds mul-float-binary32 array-read-float-binary32 mul-float-binary32-2
+    array-read-float-binary32-2 float-binary32-requires mul-a array-write-a add-i loop-less loop-again from-places32-requires returns)

@@ -56,4 +56,7 @@ returns c = c .from-places32 .ensures ∙ done 32 60 _ _ _ (c .before .before .b
     (c .before .before .loop .i) (search needs) (c .before .before .loop .inv .1) ∙ one-list 32 _ _
 
 pub float-unary32-spec : {M : Type 1} → statement M
-float-unary32-spec = tie.close (tie.spec Inv-loop μ-loop places32-requires loop-holds mul-float-unary32 array-read-float-unary32 float-unary32-requires mul-a array-write-a add-i loop-less loop-again from-places32-requires returns)
+float-unary32-spec =
+    tie.close
+    (tie.spec Inv-loop μ-loop places32-requires loop-holds mul-float-unary32 array-read-float-unary32 float-unary32-requires mul-a array-write-a add-i
+    loop-less loop-again from-places32-requires returns)

@@ -61,4 +61,7 @@ returns : tie.Need-returns Inv-loop μ-loop
 returns c = mask-end 16 _ (c .before .before .lanes16 .ensures) (c .before .loop .i) (search needs) (c .before .loop .inv .1)
 
 pub i16x8-bitmask-spec : {M : Type 1} → statement M
-i16x8-bitmask-spec = tie.close (tie.spec Inv-loop μ-loop lanes16-requires loop-holds sub-i mul-mask mul-sign16 array-read-sign16 sign16-requires cast-mask add-mask loop-less loop-again returns)
+i16x8-bitmask-spec =
+    tie.close
+    (tie.spec Inv-loop μ-loop lanes16-requires loop-holds sub-i mul-mask mul-sign16 array-read-sign16 sign16-requires cast-mask add-mask loop-less
+    loop-again returns)

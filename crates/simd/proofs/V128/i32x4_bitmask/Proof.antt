@@ -61,4 +61,7 @@ returns : tie.Need-returns Inv-loop μ-loop
 returns c = mask-end 32 _ (c .before .before .lanes32 .ensures) (c .before .loop .i) (search needs) (c .before .loop .inv .1)
 
 pub i32x4-bitmask-spec : {M : Type 1} → statement M
-i32x4-bitmask-spec = tie.close (tie.spec Inv-loop μ-loop lanes32-requires loop-holds sub-i mul-mask mul-sign32 array-read-sign32 sign32-requires cast-mask add-mask loop-less loop-again returns)
+i32x4-bitmask-spec =
+    tie.close
+    (tie.spec Inv-loop μ-loop lanes32-requires loop-holds sub-i mul-mask mul-sign32 array-read-sign32 sign32-requires cast-mask add-mask loop-less
+    loop-again returns)

@@ -65,4 +65,7 @@ returns c = c .from-places32 .ensures ∙ done 32 60 _ _ _ (c .before .before .b
     (c .before .before .before .places322 .ensures) (c .before .before .loop .i) (search needs) (c .before .before .loop .inv .1) ∙ dot-16 _ _
 
 pub i32x4-dot-i16x8-s-spec : {M : Type 1} → statement M
-i32x4-dot-i16x8-s-spec = tie.close (tie.spec Inv-loop μ-loop places32-requires places32-requires-2 loop-holds mul-binary32 array-read-binary32 mul-binary32-2 array-read-binary32-2 binary32-requires mul-a array-write-a add-i loop-less loop-again from-places32-requires returns)
+i32x4-dot-i16x8-s-spec =
+    tie.close
+    (tie.spec Inv-loop μ-loop places32-requires places32-requires-2 loop-holds mul-binary32 array-read-binary32 mul-binary32-2 array-read-binary32-2
+    binary32-requires mul-a array-write-a add-i loop-less loop-again from-places32-requires returns)

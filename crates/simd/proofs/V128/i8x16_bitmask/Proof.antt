@@ -58,4 +58,7 @@ returns : tie.Need-returns Inv-loop μ-loop
 returns c = mask-end 8 _ (c .before .before .lanes8 .ensures) (c .before .loop .i) (search needs) (c .before .loop .inv .1)
 
 pub i8x16-bitmask-spec : {M : Type 1} → statement M
-i8x16-bitmask-spec = tie.close (tie.spec Inv-loop μ-loop lanes8-requires loop-holds sub-i mul-mask array-read-sign8 sign8-requires cast-mask add-mask loop-less loop-again returns)
+i8x16-bitmask-spec =
+    tie.close
+    (tie.spec Inv-loop μ-loop lanes8-requires loop-holds sub-i mul-mask array-read-sign8 sign8-requires cast-mask add-mask loop-less loop-again
+    returns)

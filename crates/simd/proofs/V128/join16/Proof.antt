@@ -39,4 +39,7 @@ returns : tie.Need-returns
 returns c = from-halves 16 4 refl (c .before .before .args .t1) (search needs) (c .before .half16 .ensures) (c .half162 .ensures)
 
 pub join16-spec : {M : Type 1} → statement M
-join16-spec = tie.close (tie.spec array-read-half16 array-read-half16-2 array-read-half16-3 array-read-half16-4 half16-requires array-read-half16-5 array-read-half16-6 array-read-half16-7 array-read-half16-8 half16-requires-2 returns)
+join16-spec =
+    tie.close
+    (tie.spec array-read-half16 array-read-half16-2 array-read-half16-3 array-read-half16-4 half16-requires array-read-half16-5 array-read-half16-6
+    array-read-half16-7 array-read-half16-8 half16-requires-2 returns)

@@ -63,4 +63,8 @@ returns : tie.Need-returns
 returns c = from-halves 8 8 refl (c .before .before .args .t1) (search needs) (c .before .half8 .ensures) (c .half82 .ensures)
 
 pub join8-spec : {M : Type 1} → statement M
-join8-spec = tie.close (tie.spec array-read-half8 array-read-half8-2 array-read-half8-3 array-read-half8-4 array-read-half8-5 array-read-half8-6 array-read-half8-7 array-read-half8-8 half8-requires array-read-half8-9 array-read-half8-10 array-read-half8-11 array-read-half8-12 array-read-half8-13 array-read-half8-14 array-read-half8-15 array-read-half8-16 half8-requires-2 returns)
+join8-spec =
+    tie.close
+    (tie.spec array-read-half8 array-read-half8-2 array-read-half8-3 array-read-half8-4 array-read-half8-5 array-read-half8-6 array-read-half8-7
+    array-read-half8-8 half8-requires array-read-half8-9 array-read-half8-10 array-read-half8-11 array-read-half8-12 array-read-half8-13
+    array-read-half8-14 array-read-half8-15 array-read-half8-16 half8-requires-2 returns)

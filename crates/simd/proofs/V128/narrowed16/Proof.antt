@@ -65,4 +65,7 @@ returns c =
     ∙ ap (map f) (c .before .before .before .places16 .ensures)))
 
 pub narrowed16-spec : {M : Type 1} → statement M
-narrowed16-spec = tie.close (tie.spec Inv-loop μ-loop places16-requires loop-holds mul-narrow16 array-read-narrow16 narrow16-requires array-write-out add-i loop-less loop-again from-places8-requires returns)
+narrowed16-spec =
+    tie.close
+    (tie.spec Inv-loop μ-loop places16-requires loop-holds mul-narrow16 array-read-narrow16 narrow16-requires array-write-out add-i loop-less
+    loop-again from-places8-requires returns)

@@ -68,4 +68,7 @@ returns c =
     ∙ ap (map f) (c .before .before .before .places32 .ensures)))
 
 pub narrowed32-spec : {M : Type 1} → statement M
-narrowed32-spec = tie.close (tie.spec Inv-loop μ-loop places32-requires loop-holds mul-narrow32 array-read-narrow32 narrow32-requires mul-out array-write-out add-i loop-less loop-again from-places16-requires returns)
+narrowed32-spec =
+    tie.close
+    (tie.spec Inv-loop μ-loop places32-requires loop-holds mul-narrow32 array-read-narrow32 narrow32-requires mul-out array-write-out add-i loop-less
+    loop-again from-places16-requires returns)

@@ -55,4 +55,7 @@ returns c = c .from-places16 .ensures ∙ done 16 56 _ _ _ (c .before .before .b
     (c .before .before .loop .i) (search needs) (c .before .before .loop .inv .1) ∙ one-list 16 _ _
 
 pub unary16-spec : {M : Type 1} → statement M
-unary16-spec = tie.close (tie.spec Inv-loop μ-loop places16-requires loop-holds mul-unary16 array-read-unary16 unary16-requires mul-a array-write-a add-i loop-less loop-again from-places16-requires returns)
+unary16-spec =
+    tie.close
+    (tie.spec Inv-loop μ-loop places16-requires loop-holds mul-unary16 array-read-unary16 unary16-requires mul-a array-write-a add-i loop-less
+    loop-again from-places16-requires returns)

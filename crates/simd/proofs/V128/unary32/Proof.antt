@@ -55,4 +55,7 @@ returns c = c .from-places32 .ensures ∙ done 32 60 _ _ _ (c .before .before .b
     (c .before .before .loop .i) (search needs) (c .before .before .loop .inv .1) ∙ one-list 32 _ _
 
 pub unary32-spec : {M : Type 1} → statement M
-unary32-spec = tie.close (tie.spec Inv-loop μ-loop places32-requires loop-holds mul-unary32 array-read-unary32 unary32-requires mul-a array-write-a add-i loop-less loop-again from-places32-requires returns)
+unary32-spec =
+    tie.close
+    (tie.spec Inv-loop μ-loop places32-requires loop-holds mul-unary32 array-read-unary32 unary32-requires mul-a array-write-a add-i loop-less
+    loop-again from-places32-requires returns)

@@ -49,4 +49,7 @@ returns c = c .from-places8 .ensures ∙ done 8 48 _ _ _ (c .before .before .bef
     (c .before .before .loop .i) (search needs) (c .before .before .loop .inv .1) ∙ one-list 8 _ _
 
 pub unary8-spec : {M : Type 1} → statement M
-unary8-spec = tie.close (tie.spec Inv-loop μ-loop places8-requires loop-holds array-read-unary8 unary8-requires array-write-a add-i loop-less loop-again from-places8-requires returns)
+unary8-spec =
+    tie.close
+    (tie.spec Inv-loop μ-loop places8-requires loop-holds array-read-unary8 unary8-requires array-write-a add-i loop-less loop-again
+    from-places8-requires returns)

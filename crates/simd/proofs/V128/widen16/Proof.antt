@@ -68,4 +68,7 @@ returns c =
     ∙ widened 16 _ _ refl
 
 pub widen16-spec : {M : Type 1} → statement M
-widen16-spec = tie.close (tie.spec Inv-loop μ-loop places16-requires loop-holds mul-extend16 array-read-extend16 extend16-requires mul-out array-write-out add-i loop-less loop-again from-places32-requires returns)
+widen16-spec =
+    tie.close
+    (tie.spec Inv-loop μ-loop places16-requires loop-holds mul-extend16 array-read-extend16 extend16-requires mul-out array-write-out add-i loop-less
+    loop-again from-places32-requires returns)

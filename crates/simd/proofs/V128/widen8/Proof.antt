@@ -65,4 +65,7 @@ returns c =
     ∙ widened 8 _ _ refl
 
 pub widen8-spec : {M : Type 1} → statement M
-widen8-spec = tie.close (tie.spec Inv-loop μ-loop places8-requires loop-holds array-read-extend8 extend8-requires mul-out array-write-out add-i loop-less loop-again from-places16-requires returns)
+widen8-spec =
+    tie.close
+    (tie.spec Inv-loop μ-loop places8-requires loop-holds array-read-extend8 extend8-requires mul-out array-write-out add-i loop-less loop-again
+    from-places16-requires returns)
