@@ -103,7 +103,8 @@ def archive(room, name):
 
 def native_archive(room, name):
     """The static library of a crate of the copy for the processor at hand. rt's is for x86-64; for another processor the module that rt's is compiled from is compiled
-    again, by the same compiler, with what belongs to x86-64 left out."""
+    again, by the same compiler, with what belongs to x86-64 left out. How a function hands back more than sixteen bytes stays x86-64's way in the module, so such
+    a function cannot be called from C or Rust there."""
     if platform.machine() == "x86_64":
         return archive(room, name)
     made = room / "target" / "native"
