@@ -16,7 +16,8 @@ use Rattle.standard.specs.Convert.{trunc-sat-u, trunc-sat-s}
 use Rattle.lane_float_pattern.proofs.Fields.{field, digits, digits-are, digits-lt, led}
 use Rattle.lane_float_parts.proofs.Upper.{upper, field-is, sign-test}
 use Rattle.lane_float_parts.proofs.Upper.{from as from-upper}
-use Rattle.lane_float_pattern.proofs.Saturation.{part-of-nan, part-small, part-large, part-middle, unsigned-lane, signed-lane, capped-low, capped-high, negated-lane}
+use Rattle.lane_float_pattern.proofs.Saturation.{part-of-nan, part-small, part-large, part-middle, unsigned-lane, signed-lane, capped-low, capped-high}
+use Rattle.lane_float_pattern.proofs.Saturation.{negated-lane}
 
 -- ---- the signed lane, by the whole part of the magnitude
 module _ (f : Format) (b : ℕ) where
