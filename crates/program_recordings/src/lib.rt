@@ -1,4 +1,5 @@
-// What `replay`, `record` and `mend` write beside files: each function puts all lines of an answer at the start of a lent buffer, and says how many bytes they are.
+// What `replay`, `record` and `mend` write beside files: each function puts all lines of an answer at the start of a lent buffer, and says how many bytes they
+// are.
 ghost use mathlib.Core.Path.{_≡_};
 ghost use Rattle.recording_compare.specs.Verdict as trace;
 ghost use Rattle.recording_rules.specs.Recorded as records;
@@ -8,17 +9,25 @@ ghost use Rattle.program_recordings.specs.Lines.{replay, record-said, bi
 use program_digits::put;
 use program_digits::put_count;
 use program_digits::put_number;
+use recording_compare::Answer;
 use recording_mending::Mending;
 use recording_rules::Recorded;
 
-pub fn replay(answer: recording_compare::Answer, out: &mut [u8; 32]) -> usize
-    ensures { λ r. ⌜ Filled (now (out .entry)) (replay (trace.answer-of answer)) (now (out .exit)) r ⌝ }
+// The line of what a replay answers, from a place on: `show` ends with it.
+pub fn put_answer(out: &mut [u8], at: usize, answer: Answer) -> usize
+    ensures { λ n. ⌜ Wrote (now (out .entry)) at (replay (trace.answer-of answer)) (now (out .exit)) n ⌝ }
 {
     match answer {
-        recording_compare::Answer::Agrees => put(out, 0, b"agrees\n"),
-        recording_compare::Answer::Differs(record) => put_count(out, 0, b"record ", record as u64),
-        recording_compare::Answer::Refused(number) => put_count(out, 0, b"refused ", number as u64),
+        Answer::Agrees => put(out, at, b"agrees\n"),
+        Answer::Differs(record) => put_count(out, at, b"record ", record as u64),
+        Answer::Refused(number) => put_count(out, at, b"refused ", number as u64),
     }
+}
+
+pub fn replay(answer: Answer, out: &mut [u8; 32]) -> usize
+    ensures { λ r. ⌜ Filled (now (out .entry)) (replay (trace.answer-of answer)) (now (out .exit)) r ⌝ }
+{
+    put_answer(out, 0, answer)
 }
 
 // What `record` says on standard error.

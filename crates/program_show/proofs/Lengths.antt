@@ -21,7 +21,8 @@ use Rattle.program_recordings.specs.Lines.{replay}
 use Rattle.program_recordings.proofs.Lengths.{replay-length}
 use Rattle.program_step.specs.Shown.{shown}
 use Rattle.program_step.proofs.Written.{shown-length}
-use Rattle.program_record.specs.Record.{kind-name, low-four, high-four, scalar-digits, left-line, difference, head, record-text}
+use Rattle.program_outcome.specs.Outcome.{kind-name, low-four, high-four, scalar-digits, left-line}
+use Rattle.program_record.specs.Record.{difference, head, record-text}
 use Rattle.program_show.specs.Show.{given, show-from, show-judged, show-text}
 
 kind-length : (k : ℕ) → length (kind-name k) ≤ 7
@@ -47,14 +48,16 @@ scalar-length r = by (wide (getD r 49 0))
     by true = omega (arith, high, low, length-append (hex-bytes (high-four r)) (hex-bytes (low-four r)))
     by false = omega (arith, low)
 
-line-length : (v k s : List ℕ) (n : ℕ) → length v ≡ 32 → length k ≤ 7 → length s ≤ 16 → length (codes "  vector " ++ (v ++ (k ++ (s ++ count-line " refused " n)))) ≤ 94
+line-length : (v k s : List ℕ) (n : ℕ) → length v ≡ 32 → length k ≤ 7 → length s ≤ 16
+    → length (codes "  vector " ++ (v ++ (k ++ (s ++ count-line " refused " n)))) ≤ 94
 unfolding codes
 line-length v k s n a b c = simp length-append (omega (arith, decimal-length n))
 
 left-length : (r : List ℕ) → length (left-line r) ≤ 94
 unfolding left-line
 left-length r =
-    line-length (hex-bytes (bytes r 32 16)) (kind-name (getD r 49 0)) (scalar-digits r) (getD r 48 0) (length-hex-bytes (bytes r 32 16)) (kind-length (getD r 49 0)) (scalar-length r)
+    line-length (hex-bytes (bytes r 32 16)) (kind-name (getD r 49 0)) (scalar-digits r) (getD r 48 0) (length-hex-bytes (bytes r 32 16))
+    (kind-length (getD r 49 0)) (scalar-length r)
 
 titled-length : (l : List ℕ) → length l ≤ 94 → length (codes "  the definition gives\n" ++ l) ≤ 117
 unfolding codes
@@ -79,7 +82,8 @@ unfolding record-text
 record-length n r d = by (eqb (length r) 64 && eqb (length d) 64)
   where
     by : (t : Bool) → length (cond t (head n r ++ (left-line r ++ difference r d)) []) ≤ 463
-    by true = three-length (head n r) (left-line r) (difference r d) (headed-length n (shown (take 32 r)) (shown-length (take 32 r))) (left-length r) (difference-length r d)
+    by true = three-length (head n r) (left-line r) (difference r d) (headed-length n (shown (take 32 r)) (shown-length (take 32 r))) (left-length r)
+        (difference-length r d)
     by false = omega arith
 
 from-length : (k place : ℕ) (file : List ℕ) (m : Machine) → length (show-from k place file m) ≤ 463 * k
@@ -97,5 +101,12 @@ show-within file = by (judged file) refl
   where
     by : (j : layout.Judged) → judged file ≡ j → length (show-judged j file ++ replay (records.replay file)) ≤ 131072
     by (layout.recording n) e =
-        omega (arith, length-append (show-from n 0 file start) (replay (records.replay file)), from-length n 0 file start, counted file n e .0, replay-length (records.replay file))
+        omega (
+          arith,
+          length-append (show-from n 0 file start) (replay (records.replay file)),
+          from-length n 0 file start,
+          counted file n e .0,
+          replay-length
+              (records.replay file),
+        )
     by (layout.refused n) e = omega (arith, replay-length (records.replay file))

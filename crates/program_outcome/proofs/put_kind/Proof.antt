@@ -1,10 +1,10 @@
--- `program_record::put_kind` meets its contract. Assumes nothing.
+-- `program_outcome::put_kind` meets its contract. Assumes nothing.
 use borrow.Author.Needs.{needs}
 use native.Mathlib.Omega.{arith}
 use borrow.Author.Tests.{eq-eqb, ne-eqb}
 use Rattle.program_digits.specs.Codes.{codes}
-use Rattle.program_record.proofs.put_kind.Statement.{statement}
-use Rattle.program_record.proofs.put_kind.Tie as tie
+use Rattle.program_outcome.proofs.put_kind.Statement.{statement}
+use Rattle.program_outcome.proofs.put_kind.Tie as tie
 
 slice-aggregate-put : tie.Need-slice-aggregate-put
 slice-aggregate-put c = search needs
@@ -30,7 +30,12 @@ same-length-2 c = search needs
 
 returns-2 : tie.Need-returns-2
 unfolding codes
-returns-2 c = rw (ne-eqb (c .before .before .before .before .before .before .before .before .args .kind) 0 (λ e. omega arith), eq-eqb (c .before .before .before .before .before .before .before .before .args .kind) 1 (omega arith)) (c .before .before .put2 .ensures)
+returns-2 c =
+    rw (
+      ne-eqb (c .before .before .before .before .before .before .before .before .args .kind) 0 (λ e. omega arith),
+      eq-eqb
+          (c .before .before .before .before .before .before .before .before .args .kind) 1 (omega arith),
+    ) (c .before .before .put2 .ensures)
 
 slice-aggregate-put-3 : tie.Need-slice-aggregate-put-3
 slice-aggregate-put-3 c = search needs
@@ -43,7 +48,14 @@ same-length-3 c = search needs
 
 returns-3 : tie.Need-returns-3
 unfolding codes
-returns-3 c = rw (ne-eqb (c .before .before .before .before .before .before .before .before .before .args .kind) 0 (λ e. omega arith), ne-eqb (c .before .before .before .before .before .before .before .before .before .args .kind) 1 (λ e. omega arith), eq-eqb (c .before .before .before .before .before .before .before .before .before .args .kind) 2 (omega arith)) (c .before .before .put3 .ensures)
+returns-3 c =
+    rw (
+      ne-eqb (c .before .before .before .before .before .before .before .before .before .args .kind) 0 (λ e. omega arith),
+      ne-eqb
+          (c .before .before .before .before .before .before .before .before .before .args .kind) 1 (λ e. omega arith),
+      eq-eqb
+          (c .before .before .before .before .before .before .before .before .before .args .kind) 2 (omega arith),
+    ) (c .before .before .put3 .ensures)
 
 slice-aggregate-put-4 : tie.Need-slice-aggregate-put-4
 slice-aggregate-put-4 c = search needs
@@ -56,7 +68,14 @@ same-length-4 c = search needs
 
 returns-4 : tie.Need-returns-4
 unfolding codes
-returns-4 c = rw (ne-eqb (c .before .before .before .before .before .before .before .before .before .args .kind) 0 (λ e. omega arith), ne-eqb (c .before .before .before .before .before .before .before .before .before .args .kind) 1 (λ e. omega arith), ne-eqb (c .before .before .before .before .before .before .before .before .before .args .kind) 2 (λ e. omega arith)) (c .before .before .put4 .ensures)
+returns-4 c =
+    rw (
+      ne-eqb (c .before .before .before .before .before .before .before .before .before .args .kind) 0 (λ e. omega arith),
+      ne-eqb
+          (c .before .before .before .before .before .before .before .before .before .args .kind) 1 (λ e. omega arith),
+      ne-eqb
+          (c .before .before .before .before .before .before .before .before .before .args .kind) 2 (λ e. omega arith),
+    ) (c .before .before .put4 .ensures)
 
 pub put-kind-spec : {M : Type 1} → statement M
 put-kind-spec =

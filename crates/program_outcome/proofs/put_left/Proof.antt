@@ -1,11 +1,11 @@
--- `program_record::put_left` meets its contract. Assumes nothing.
+-- `program_outcome::put_left` meets its contract. Assumes nothing.
 use borrow.Author.Needs.{needs}
 use denote.Ref.{now}
 use Rattle.program_digits.specs.Codes.{codes}
 use Rattle.program_digits.proofs.Puts.{then, said-as}
-use Rattle.program_record.proofs.Parts.{left-as}
-use Rattle.program_record.proofs.put_left.Statement.{statement}
-use Rattle.program_record.proofs.put_left.Tie as tie
+use Rattle.program_outcome.proofs.Parts.{left-as}
+use Rattle.program_outcome.proofs.put_left.Statement.{statement}
+use Rattle.program_outcome.proofs.put_left.Tie as tie
 
 slice-aggregate-put : tie.Need-slice-aggregate-put
 slice-aggregate-put c = search needs
@@ -43,8 +43,15 @@ same-length c = search needs
 returns : tie.Need-returns
 unfolding codes
 returns c =
-    said-as (left-as (now (c .before .before .before .before .before .before .before .before .before .before .before .before .before .before .before .before .before .before .before .before .before .before .before .before .before .before .args .r)) (c .before .before .before .before .before .before .before .before .before .before .before .before .before .byte .ensures) (c .before .before .before .byte2 .ensures))
-    (then (c .before .before .before .before .before .before .before .before .before .before .before .before .before .before .before .before .before .before .before .before .before .put .ensures) (then (c .before .before .before .before .before .before .before .before .before .before .before .before .before .before .before .before .before .put-vector .ensures) (then (c .before .before .before .before .before .before .before .before .before .before .before .before .put-kind .ensures) (then (c .before .before .before .before .before .before .before .before .put-scalar .ensures) (c .before .before .put-count .ensures)))))
+    said-as (left-as (now (c .before .before .before .before .before .before .before .before .before .before .before .before .before .before .before .before
+    .before .before .before .before .before .before .before .before .before .before .args .r))
+    (c .before .before .before .before .before .before .before .before .before .before .before .before .before .byte .ensures)
+    (c .before .before .before .byte2 .ensures))
+    (then (c .before .before .before .before .before .before .before .before .before .before .before .before .before .before .before .before .before .before
+    .before .before .before .put .ensures) (then (c .before .before .before .before .before .before .before .before .before .before .before .before
+    .before .before .before .before .before .put-vector .ensures)
+    (then (c .before .before .before .before .before .before .before .before .before .before .before .before .put-kind .ensures)
+    (then (c .before .before .before .before .before .before .before .before .put-scalar .ensures) (c .before .before .put-count .ensures)))))
 
 pub put-left-spec : {M : Type 1} → statement M
 put-left-spec =

@@ -1,10 +1,10 @@
--- `program_record::put_scalar` meets its contract. Assumes nothing.
+-- `program_outcome::put_scalar` meets its contract. Assumes nothing.
 use borrow.Author.Needs.{needs}
 use denote.Ref.{now}
 use Rattle.program_digits.proofs.Puts.{then, said-as}
-use Rattle.program_record.proofs.Parts.{four, wide-digits, narrow-digits}
-use Rattle.program_record.proofs.put_scalar.Statement.{statement}
-use Rattle.program_record.proofs.put_scalar.Tie as tie
+use Rattle.program_outcome.proofs.Parts.{four, wide-digits, narrow-digits}
+use Rattle.program_outcome.proofs.put_scalar.Statement.{statement}
+use Rattle.program_outcome.proofs.put_scalar.Tie as tie
 
 byte-requires : tie.Need-byte-requires
 byte-requires c κs = search needs
@@ -51,8 +51,18 @@ same-length c = search needs
 returns : tie.Need-returns
 returns c =
     said-as
-    (wide-digits (now (c .before .before .before .before .before .before .before .before .before .before .before .before .before .before .before .before .before .before .before .before .before .before .args .r)) (c .before .before .before .before .before .before .before .before .before .before .before .before .before .before .before .byte5 .ensures) (c .before .before .before .before .before .before .before .before .before .before .before .before .before .before .if1 .taken) (four (c .before .before .before .before .before .before .before .before .before .before .before .before .before .byte6 .ensures) (c .before .before .before .before .before .before .before .before .before .before .before .before .byte7 .ensures) (c .before .before .before .before .before .before .before .before .before .before .before .byte8 .ensures) (c .before .before .before .before .before .before .before .before .before .before .byte9 .ensures))
-    (four (c .before .before .before .before .before .before .before .before .before .before .before .before .before .before .before .before .before .before .before .byte .ensures) (c .before .before .before .before .before .before .before .before .before .before .before .before .before .before .before .before .before .before .byte2 .ensures) (c .before .before .before .before .before .before .before .before .before .before .before .before .before .before .before .before .before .byte3 .ensures) (c .before .before .before .before .before .before .before .before .before .before .before .before .before .before .before .before .byte4 .ensures)))
+    (wide-digits (now (c .before .before .before .before .before .before .before .before .before .before .before .before .before .before .before .before .before
+    .before .before .before .before .before .args .r)) (c .before .before .before .before .before .before .before .before .before .before .before
+    .before .before .before .before .byte5 .ensures) (c .before .before .before .before .before .before .before .before .before .before .before .before
+    .before .before .if1 .taken) (four (c .before .before .before .before .before .before .before .before .before .before .before .before
+    .before .byte6 .ensures) (c .before .before .before .before .before .before .before .before .before .before .before .before .byte7 .ensures)
+    (c .before .before .before .before .before .before .before .before .before .before .before .byte8 .ensures)
+    (c .before .before .before .before .before .before .before .before .before .before .byte9 .ensures))
+    (four (c .before .before .before .before .before .before .before .before .before .before .before .before .before .before .before .before .before .before
+    .before .byte .ensures) (c .before .before .before .before .before .before .before .before .before .before .before .before .before .before .before
+    .before .before .before .byte2 .ensures) (c .before .before .before .before .before .before .before .before .before .before .before .before .before
+    .before .before .before .before .byte3 .ensures) (c .before .before .before .before .before .before .before .before .before .before .before .before
+    .before .before .before .before .byte4 .ensures)))
     (then (c .before .before .before .before .before .before .before .put-hex-bytes .ensures) (c .before .before .put-hex-bytes2 .ensures))
 
 slice-aggregate-put-hex-bytes-3 : tie.Need-slice-aggregate-put-hex-bytes-3
@@ -66,7 +76,12 @@ same-length-2 c = search needs
 
 returns-2 : tie.Need-returns-2
 returns-2 c =
-    said-as (narrow-digits (now (c .before .before .before .before .before .before .before .before .before .before .before .before .before .args .r)) (c .before .before .before .before .before .before .byte5 .ensures) (c .before .before .before .before .before .if1 .left) (four (c .before .before .before .before .before .before .before .before .before .before .byte .ensures) (c .before .before .before .before .before .before .before .before .before .byte2 .ensures) (c .before .before .before .before .before .before .before .before .byte3 .ensures) (c .before .before .before .before .before .before .before .byte4 .ensures)))
+    said-as (narrow-digits (now (c .before .before .before .before .before .before .before .before .before .before .before .before .before .args .r))
+    (c .before .before .before .before .before .before .byte5 .ensures) (c .before .before .before .before .before .if1 .left)
+    (four (c .before .before .before .before .before .before .before .before .before .before .byte .ensures)
+    (c .before .before .before .before .before .before .before .before .before .byte2 .ensures)
+    (c .before .before .before .before .before .before .before .before .byte3 .ensures)
+    (c .before .before .before .before .before .before .before .byte4 .ensures)))
     (c .before .before .put-hex-bytes3 .ensures)
 
 pub put-scalar-spec : {M : Type 1} → statement M

@@ -1,4 +1,4 @@
--- `program_record::put_vector` meets its contract. Assumes nothing.
+-- `program_outcome::put_vector` meets its contract. Assumes nothing.
 use borrow.Author.Needs.{needs}
 use denote.Ref.{now}
 use Prim.Native.Nat.{_+_, _-_, _≤_}
@@ -8,9 +8,9 @@ use lib.ListN.{length}
 use Rattle.calculator_rules.specs.Definition.{bytes}
 use Rattle.program_digits.specs.Digits.{hex-bytes}
 use Rattle.program_digits.proofs.Puts.{then, no-more, said-as, Completes}
-use Rattle.program_record.proofs.Parts.{one-byte, no-bytes}
-use Rattle.program_record.proofs.put_vector.Statement.{statement}
-use Rattle.program_record.proofs.put_vector.Tie as tie
+use Rattle.program_outcome.proofs.Parts.{one-byte, no-bytes}
+use Rattle.program_outcome.proofs.put_vector.Statement.{statement}
+use Rattle.program_outcome.proofs.put_vector.Tie as tie
 
 abbrev Inv-loop : tie.InvT-loop
 Inv-loop out₀ at r next₀ i₀ out next i =
@@ -43,8 +43,12 @@ loop-less c = search needs
 loop-again : tie.Need-loop-again Inv-loop μ-loop
 loop-again c =
     let l = c .before .before .before .before .before .before .before .loop in
-    let r = now (c .before .before .before .before .before .before .before .before .before .before .args .r) in
-    (search needs, search needs, λ left n p. l .inv .2 left n (said-as (one-byte r (l .i) (omega arith) (c .before .before .before .before .before .byte .ensures)) (then (c .before .before .put-hex-bytes .ensures) p)))
+    let r = now (c .before .before .before .before .before .before .before .before .before .before .args .r) in (
+      search needs,
+      search needs,
+      λ left n p. l .inv .2 left n (said-as
+          (one-byte r (l .i) (omega arith) (c .before .before .before .before .before .byte .ensures)) (then (c .before .before .put-hex-bytes .ensures) p)),
+    )
 
 same-length : tie.Need-same-length Inv-loop μ-loop
 same-length c = search needs

@@ -6,7 +6,7 @@ use mathlib.Core.Bool.{true≢false}
 use native.Mathlib.Omega.{arith}
 use Rattle.program_digits.specs.Codes.{codes}
 use Rattle.program_digits.proofs.Puts.{then, no-more, said-as}
-use Rattle.program_record.proofs.Parts.{no-difference, some-difference}
+use Rattle.program_record.proofs.Difference.{no-difference, some-difference}
 use Rattle.program_record.proofs.put_difference.Statement.{statement}
 use Rattle.program_record.proofs.put_difference.Tie as tie
 
@@ -52,7 +52,16 @@ returns-2 : tie.Need-returns-2
 unfolding codes
 returns-2 c =
     let a = c .before .before .before .before .before .before .before .before .before .before .before .before .before .before .before .before .args in
-    said-as (some-difference (now (a .r)) (now (a .d)) (omega (arith, c .before .before .before .before .before .before .before .before .before .before .before .before .before .before .before .before .pre)) (omega (arith, c .before .before .before .before .before .before .before .before .before .before .before .before .before .before .before .before .pre)) (λ e. true≢false (sym (c .before .before .before .before .before .before .before .before .before .before .same .ensures .1 e) ∙ c .before .before .before .before .before .before .before .before .before .if1 .left)))
+    said-as (some-difference (now (a .r)) (now (a .d)) (omega (
+      arith,
+      c .before .before .before .before .before .before .before .before .before .before .before
+          .before .before .before .before .before .pre,
+    )) (omega (
+      arith,
+      c .before .before .before .before .before .before .before .before .before .before .before .before .before .before .before .before .pre,
+    ))
+    (λ e. true≢false (sym (c .before .before .before .before .before .before .before .before .before .before .same .ensures .1 e)
+    ∙ c .before .before .before .before .before .before .before .before .before .if1 .left)))
     (then (c .before .before .before .before .before .before .put .ensures) (c .before .before .put-left .ensures))
 
 pub put-difference-spec : {M : Type 1} → statement M

@@ -22,7 +22,9 @@ put-requires : tie.Need-put-requires
 put-requires c κs = search needs
 
 slice-aggregate-put-step : tie.Need-slice-aggregate-put-step
-slice-aggregate-put-step c = sym (length-take-le 32 (now (c .before .before .before .before .before .before .before .before .before .before .before .before .before .before .args .r)) (omega (arith, c .before .before .before .before .before .before .before .before .before .before .before .before .before .before .pre)))
+slice-aggregate-put-step c =
+    sym (length-take-le 32 (now (c .before .before .before .before .before .before .before .before .before .before .before .before .before .before .args .r))
+    (omega (arith, c .before .before .before .before .before .before .before .before .before .before .before .before .before .before .pre)))
 
 put-step-requires : tie.Need-put-step-requires
 put-step-requires c κs = search needs
@@ -38,7 +40,10 @@ same-length c = search needs
 
 returns : tie.Need-returns
 unfolding codes
-returns c = then (c .before .before .before .before .before .before .before .before .before .before .before .before .before .before .before .before .before .put-number .ensures) (then (c .before .before .before .before .before .before .before .before .before .before .before .before .put .ensures) (then (c .before .before .before .before .before .before .before .put-step .ensures) (c .before .before .put2 .ensures)))
+returns c =
+    then (c .before .before .before .before .before .before .before .before .before .before .before .before .before .before .before .before
+    .before .put-number .ensures) (then (c .before .before .before .before .before .before .before .before .before .before .before .before .put .ensures)
+    (then (c .before .before .before .before .before .before .before .put-step .ensures) (c .before .before .put2 .ensures)))
 
 pub put-head-spec : {M : Type 1} → statement M
 put-head-spec =

@@ -15,7 +15,12 @@ returns c = rw (ne-eqb (length (now (c .before .before .before .before .args .r)
 
 returns-2 : tie.Need-returns-2
 unfolding record-text
-returns-2 c = rw (eq-eqb (length (now (c .before .before .before .before .before .args .r))) 64 (omega arith), ne-eqb (length (now (c .before .before .before .before .before .args .d))) 64 (λ e. omega arith)) (no-more _ _)
+returns-2 c =
+    rw (
+      eq-eqb (length (now (c .before .before .before .before .before .args .r))) 64 (omega arith),
+      ne-eqb
+          (length (now (c .before .before .before .before .before .args .d))) 64 (λ e. omega arith),
+    ) (no-more _ _)
 
 put-head-requires : tie.Need-put-head-requires
 put-head-requires c κs = search needs
@@ -32,8 +37,19 @@ same-length c = search needs
 returns-3 : tie.Need-returns-3
 unfolding record-text
 returns-3 c =
-    rw (eq-eqb (length (now (c .before .before .before .before .before .before .before .before .before .before .before .before .before .before .before .before .before .args .r))) 64 (omega (arith, c .before .before .before .before .before .before .before .before .before .before .before .before .before .if1 .left)), eq-eqb (length (now (c .before .before .before .before .before .before .before .before .before .before .before .before .before .before .before .before .before .args .d))) 64 (omega (arith, c .before .before .before .before .before .before .before .before .before .before .before .before .if2 .left)))
-    (then (c .before .before .before .before .before .before .before .before .before .before .put-head .ensures) (then (c .before .before .before .before .before .before .put-left .ensures) (c .before .before .put-difference .ensures)))
+    rw (
+      eq-eqb (length (now (c .before .before .before .before .before .before .before .before .before .before .before .before .before .before .before .before
+          .before .args .r))) 64 (omega (
+            arith,
+            c .before .before .before .before .before .before .before .before .before .before .before .before
+                .before .if1 .left,
+          )),
+      eq-eqb (length (now (c .before .before .before .before .before .before .before .before .before .before .before .before
+          .before .before .before .before .before .args .d))) 64
+          (omega (arith, c .before .before .before .before .before .before .before .before .before .before .before .before .if2 .left)),
+    )
+    (then (c .before .before .before .before .before .before .before .before .before .before .put-head .ensures)
+    (then (c .before .before .before .before .before .before .put-left .ensures) (c .before .before .put-difference .ensures)))
 
 pub put-record-spec : {M : Type 1} → statement M
 put-record-spec =

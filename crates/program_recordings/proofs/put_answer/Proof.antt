@@ -1,9 +1,9 @@
--- `program_record::put_answer` meets its contract. Assumes nothing.
+-- `program_recordings::put_answer` meets its contract. Assumes nothing.
 use borrow.Author.Needs.{needs}
 use Rattle.program_digits.specs.Codes.{codes}
 use Rattle.program_recordings.specs.Lines.{replay}
-use Rattle.program_record.proofs.put_answer.Statement.{statement}
-use Rattle.program_record.proofs.put_answer.Tie as tie
+use Rattle.program_recordings.proofs.put_answer.Statement.{statement}
+use Rattle.program_recordings.proofs.put_answer.Tie as tie
 
 enum-told : tie.Need-enum-told
 enum-told c = search needs

@@ -17,7 +17,9 @@ enum-known-n c = search needs
 
 put-records-requires : tie.Need-put-records-requires
 put-records-requires c κs =
-    let e = counted (now (c .before .before .before .before .before .before .before .args .file)) (c .before .before .n .given .0 .0) (sym (rw (c .before .before .n .given .1) at (c .before .before .before .before .judge .ensures))) in
+    let e =
+    counted (now (c .before .before .before .before .before .before .before .args .file)) (c .before .before .n .given .0 .0)
+    (sym (rw (c .before .before .n .given .1) at (c .before .before .before .before .judge .ensures))) in
     (e .0, e .1)
 
 enum-told : tie.Need-enum-told
@@ -29,7 +31,8 @@ same-length c = search needs
 returns : tie.Need-returns
 returns c =
     let file = now (c .before .before .before .before .before .before .before .before .before .before .args .file) in
-    said-as (ap (λ (x : layout.Judged). show-judged x file) (sym (rw (c .before .before .before .before .before .n .given .1) at (c .before .before .before .before .before .before .before .judge .ensures)))) (c .before .before .put-records .ensures)
+    said-as (ap (λ (x : layout.Judged). show-judged x file) (sym (rw (c .before .before .before .before .before .n .given .1) at
+    (c .before .before .before .before .before .before .before .judge .ensures)))) (c .before .before .put-records .ensures)
 
 returns-2 : tie.Need-returns-2
 returns-2 c =

@@ -66,16 +66,25 @@ cast-account : tie.Need-cast-account Inv-loop μ-loop
 cast-account c = omega arith
 
 slice-aggregate-account : tie.Need-slice-aggregate-account Inv-loop μ-loop
-slice-aggregate-account c = sym (step-long (c .before .before .before .before .before .before .before .before .before .args .n) (c .before .before .before .before .before .before .loop .at) (now (c .before .before .before .before .before .before .before .before .before .args .file)) (omega arith) (omega arith))
+slice-aggregate-account c =
+    sym (step-long (c .before .before .before .before .before .before .before .before .before .args .n)
+    (c .before .before .before .before .before .before .loop .at) (now
+    (c .before .before .before .before .before .before .before .before .before .args .file)) (omega arith) (omega arith))
 
 account-requires : tie.Need-account-requires Inv-loop μ-loop
 account-requires = nothing
 
 slice-aggregate-record-of : tie.Need-slice-aggregate-record-of Inv-loop μ-loop
-slice-aggregate-record-of c = sym (step-long (c .before .before .before .before .before .before .before .before .before .before .before .args .n) (c .before .before .before .before .before .before .before .before .loop .at) (now (c .before .before .before .before .before .before .before .before .before .before .before .args .file)) (omega arith) (omega arith))
+slice-aggregate-record-of c =
+    sym (step-long (c .before .before .before .before .before .before .before .before .before .before .before .args .n)
+    (c .before .before .before .before .before .before .before .before .loop .at)
+    (now (c .before .before .before .before .before .before .before .before .before .before .before .args .file)) (omega arith) (omega arith))
 
 record-of-requires : tie.Need-record-of-requires Inv-loop μ-loop
-record-of-requires c κs = step-long (c .before .before .before .before .before .before .before .before .before .before .before .args .n) (c .before .before .before .before .before .before .before .before .loop .at) (now (c .before .before .before .before .before .before .before .before .before .before .before .args .file)) (omega arith) (omega arith)
+record-of-requires c κs =
+    step-long (c .before .before .before .before .before .before .before .before .before .before .before .args .n)
+    (c .before .before .before .before .before .before .before .before .loop .at)
+    (now (c .before .before .before .before .before .before .before .before .before .before .before .args .file)) (omega arith) (omega arith)
 
 add-put-record : tie.Need-add-put-record Inv-loop μ-loop
 add-put-record c = omega arith
@@ -99,11 +108,13 @@ loop-again c =
     let file = now (a .file) in
     let s = take 32 (record-at file (l .at)) in
     let more = c .before .before .before .before .before .before .before .before .before .before .before .before .before .loop-test .taken in
-    let d = c .before .before .before .before .before .record-of .ensures ∙ ap (λ (t : List ℕ). s ++ t) (c .before .before .before .before .before .before .before .account .ensures .0) in (
+    let d = c .before .before .before .before .before .record-of .ensures
+    ∙ ap (λ (t : List ℕ). s ++ t) (c .before .before .before .before .before .before .before .account .ensures .0) in (
       omega arith,
       search needs,
       λ left r p. l .inv .2 left r
-          (said-as (one-more (a .n) (l .at) file (held (l .w) (l .writers) (l .scalar)) more d (c .before .before .before .before .before .before .before .account .ensures .1 .0)) (then (c .before .before .put-record .ensures) p)),
+          (said-as (one-more (a .n) (l .at) file (held (l .w) (l .writers) (l .scalar)) more d
+          (c .before .before .before .before .before .before .before .account .ensures .1 .0)) (then (c .before .before .put-record .ensures) p)),
     )
 
 same-length : tie.Need-same-length Inv-loop μ-loop

@@ -15,7 +15,9 @@ put-requires : tie.Need-put-requires
 put-requires c κs = search needs
 
 returns : tie.Need-returns
-returns c = c .before .put .ensures ∙ over (replicate 64 0) (now (c .before .before .before .before .args .s)) _ refl (omega (arith, c .before .before .before .before .pre))
+returns c =
+    c .before .put .ensures ∙ over (replicate 64 0) (now (c .before .before .before .before .args .s)) _ refl
+    (omega (arith, c .before .before .before .before .pre))
 
 pub record-of-spec : {M : Type 1} → statement M
 record-of-spec =

@@ -1,18 +1,16 @@
--- The parts of a record as text: the bytes of the vector one after another, the scalar's digits, and what differs. Assumes nothing.
-use mathlib.Core.Path.{_≡_, refl, sym, ap, ap₂, _∙_}
+-- The parts of the line: the bytes of the vector one after another, and the scalar's digits. Assumes nothing.
+use mathlib.Core.Path.{_≡_, sym, ap, ap₂, _∙_}
 use mathlib.Core.Bool.{Bool, true, false, cond}
 use mathlib.Core.List.{List, [], _∷_, _++_, append-nil}
-use Prim.Native.Nat.{ℕ, suc, _+_, _-_, _<_, _≤_}
+use Prim.Native.Nat.{ℕ, suc, _+_, _-_, _<_}
 use native.Mathlib.Omega.{arith}
-use lib.ListN.{length, getD, take, drop, length-append, length-drop}
-use lib.Seq.{take-all}
+use lib.ListN.{getD}
 use Rattle.calculator_rules.specs.Definition.{bytes}
-use Rattle.recording_fields.specs.Definition.{wide, same}
-use Rattle.recording_fields.proofs.Words.{same-refl, same-sound}
+use Rattle.recording_fields.specs.Definition.{wide}
 use Rattle.program_digits.specs.Codes.{codes}
 use Rattle.program_digits.specs.Digits.{hex, hex-bytes}
 use Rattle.program_digits.specs.Lines.{count-line}
-use Rattle.program_record.specs.Record.{kind-name, low-four, high-four, scalar-digits, left-line, difference}
+use Rattle.program_outcome.specs.Outcome.{kind-name, low-four, high-four, scalar-digits, left-line}
 
 -- the bytes of the vector, from one on
 pub one-byte : (r : List ℕ) (i : ℕ) {x : ℕ} → i < 16 → x ≡ getD r (32 + i) 0
@@ -22,7 +20,8 @@ one-byte r i {x} h e =
     let more : 16 - i ≡ suc (16 - (i + 1)) = omega arith in
     let further : suc (32 + i) ≡ 32 + (i + 1) = omega arith in
     ap (λ (k : ℕ). hex-bytes (bytes r (32 + i) k)) more
-    ∙ ap₂ (λ (l : List ℕ) (k : ℕ). l ++ hex-bytes (bytes r k (16 - (i + 1)))) (sym (append-nil (hex 2 (getD r (32 + i) 0))) ∙ ap (λ (y : ℕ). hex-bytes (y ∷ [])) (sym e)) further
+    ∙ ap₂ (λ (l : List ℕ) (k : ℕ). l ++ hex-bytes (bytes r k (16 - (i + 1))))
+    (sym (append-nil (hex 2 (getD r (32 + i) 0))) ∙ ap (λ (y : ℕ). hex-bytes (y ∷ [])) (sym e)) further
 
 pub no-bytes : (r : List ℕ) (at k : ℕ) → k ≡ 0 → hex-bytes (bytes r at k) ≡ []
 unfolding hex-bytes
@@ -46,22 +45,3 @@ module _ (r : List ℕ) {k : ℕ} (e : k ≡ getD r 49 0) where
       → left-line r ≡ codes "  vector " ++ (hex-bytes (bytes r 32 16) ++ (kind-name k ++ (scalar-digits r ++ count-line " refused " n)))
   unfolding left-line
   left-as q = rw (e, q)
-
--- two records differ where what their steps left does
-whole : (l : List ℕ) → length l ≡ 64 → take (length l - 32) (drop 32 l) ≡ drop 32 l
-whole l h = take-all (length l - 32) (drop 32 l) (simp length-drop (omega arith))
-
-module _ (r d : List ℕ) (p : length r ≡ 64) (q : length d ≡ 64) where
-  pub no-difference : take (length r - 32) (drop 32 r) ≡ take (length d - 32) (drop 32 d) → difference r d ≡ []
-  no-difference h =
-      let e : drop 32 r ≡ drop 32 d = sym (whole r p) ∙ h ∙ whole d q in
-      ap (λ (t : Bool). cond t [] (codes "  the definition gives\n" ++ left-line d)) (ap (λ (l : List ℕ). same l (drop 32 d)) e ∙ same-refl (drop 32 d))
-
-  pub some-difference : (take (length r - 32) (drop 32 r) ≡ take (length d - 32) (drop 32 d) → ⊥)
-      → difference r d ≡ codes "  the definition gives\n" ++ left-line d
-  some-difference ne = by (same (drop 32 r) (drop 32 d)) refl
-    where
-      by : (t : Bool) → same (drop 32 r) (drop 32 d) ≡ t
-          → cond t [] (codes "  the definition gives\n" ++ left-line d) ≡ codes "  the definition gives\n" ++ left-line d
-      by true e = absurd (ne (whole r p ∙ same-sound (drop 32 r) (drop 32 d) e ∙ sym (whole d q)))
-      by false e = refl
