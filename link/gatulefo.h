@@ -75,14 +75,15 @@ typedef struct {
     uint8_t refused;
 } gatulefo_stored;
 
-/* The calculator's scalar. Kind 0 is an i32, 1 an i64, 2 an f32, 3 an f64, as in a recording, and any other stands for 0; of a kind of 32 bits the low bits count. */
+/* The calculator's scalar. Kind 0 is an i32, 1 an i64, 2 an f32, 3 an f64, as in a recording, and any other stands for 0; of a kind of 32 bits the low bits
+ * count. */
 typedef struct {
     uint8_t kind;
     uint64_t bits;
 } gatulefo_kind_and_bits;
 
-/* What a run leaves beside the registers: the scalar, the steps done, and how it stopped. Paused: the place to take up from. Refused: the number, 1 to 6, 17 or 19; else
- * 0. Neither: the list has ended. What says nothing is 0. */
+/* What a run leaves beside the registers: the scalar, the steps done, and how it stopped. Paused: the place to take up from. Refused: the number, 1 to 6, 17 or
+ * 19; else 0. Neither: the list has ended. What says nothing is 0. */
 typedef struct {
     gatulefo_kind_and_bits scalar;
     size_t done;
@@ -97,8 +98,8 @@ typedef struct {
     uint8_t refused;
 } gatulefo_step_answer;
 
-/* How many blocks were written, whether the block after them could not be mended, and of each block written the bit that was put back, or 4096 for none. Or the number of a
- * refusal, 13 or 16, and nothing is written; else 0. */
+/* How many blocks were written, whether the block after them could not be mended, and of each block written the bit that was put back, or 4096 for none. Or the
+ * number of a refusal, 13 or 16, and nothing is written; else 0. */
 typedef struct {
     uint8_t refused;
     size_t written;
@@ -106,8 +107,8 @@ typedef struct {
     uint16_t bits[37];
 } gatulefo_mend_answer;
 
-/* A position with the distances of the windows there and a frame later; or the number of a refusal: 8 tolerance above 8, 9 length outside 64 to 65,536, 10 buffer
- * above 65,536 bytes or too short, 11 no such position. The number is 0 where a position is given, and the others are 0 where it is refused. */
+/* A position with the distances of the windows there and a frame later; or the number of a refusal: 8 tolerance above 8, 9 length outside 64 to 65,536, 10
+ * buffer above 65,536 bytes or too short, 11 no such position. The number is 0 where a position is given, and the others are 0 where it is refused. */
 typedef struct {
     size_t position;
     uint32_t first;
@@ -355,8 +356,8 @@ gatulefo_v128 gatulefo_v128_not(gatulefo_v128 v);
  * number r ≡ ibitselect 128 (number v1) (number v2) (number c) */
 gatulefo_v128 gatulefo_v128_bitselect(gatulefo_v128 v1, gatulefo_v128 v2, gatulefo_v128 c);
 
-/* The calculator (document 01, "The calculator (added)"; document 02, orders 1, 2 and 12): a run of a list of steps from a place under a limit. The registers are 32
- * words, two a register, low half first; beside each stands the number of the step that wrote it. */
+/* The calculator (document 01, "The calculator (added)"; document 02, orders 1, 2 and 12): a run of a list of steps from a place under a limit. The registers
+ * are 32 words, two a register, low half first; beside each stands the number of the step that wrote it. */
 
 /* Performs an operation by its number: the step of 32 bytes, as the one at a place of a list, counted from 0. A step that is refused changes nothing.
  * step-numbers (vectors (now (registers .exit))) (now (writers .exit)) r ≡ left-by-step (machine-told (now (registers .entry)) (now (writers .entry)) (scalar .kind) (scalar .bits)) (Definition.step place (machine-told (now (registers .entry)) (now (writers .entry)) (scalar .kind) (scalar .bits)) (now (step .entry))) */
@@ -757,11 +758,11 @@ gatulefo_v128 gatulefo_f32x4_ge(gatulefo_v128 lhs, gatulefo_v128 rhs);
  * number r ≡ binary 64 (fge binary64) (number lhs) (number rhs) */
 gatulefo_v128 gatulefo_f64x2_ge(gatulefo_v128 lhs, gatulefo_v128 rhs);
 
-/* A chain of shuffles folded into one (document 02, order 13). A link is 17 bytes: its partner, 0 for a, 1 for b, any other number for the current vector, and its sixteen
- * indices. */
+/* A chain of shuffles folded into one (document 02, order 13). A link is 17 bytes: its partner, 0 for a, 1 for b, any other number for the current vector, and
+ * its sixteen indices. */
 
-/* 0, and the sixteen indices of the one shuffle of a and b are written to `out`; or the number of the refusal, 18 more than 16 links, 5 an index above 31, and nothing is
- * written.
+/* 0, and the sixteen indices of the one shuffle of a and b are written to `out`; or the number of the refusal, 18 more than 16 links, 5 an index above 31, and
+ * nothing is written.
  * r ≡ refusal (now (links .entry))
  * now (out .exit) ≡ left r (folded (now (links .entry))) (now (out .entry)) */
 uint8_t gatulefo_fold(const uint8_t (*links)[17], size_t links_length, uint8_t out[16]);
@@ -905,7 +906,8 @@ gatulefo_loaded gatulefo_v128_load64_lane(const uint8_t *memory, size_t memory_l
 gatulefo_loaded gatulefo_v128_load64_lane_at(const uint8_t *memory, size_t memory_length, size_t address, gatulefo_v128 x, uint8_t lane);
 
 /* Loads that hand back the vector alone, in two registers: 0 where the load is refused. Whether a 0 is a refusal, `gatulefo_shortfall` says. For an interpreter
- * whose handlers end in a jump to the next, since a handler that lends a place on its stack cannot. The address of an `_at` function is `ptr`, with the offset 0. */
+ * whose handlers end in a jump to the next, since a handler that lends a place on its stack cannot. The address of an `_at` function is `ptr`, with the
+ * offset 0. */
 
 /* The vector alone, 0 where it is refused. Sixteen bytes, low byte first.
  * number r ≡ access-or-zero (load 16 (now (memory .entry)) (ptr + offset)) */
@@ -1121,8 +1123,8 @@ uint32_t gatulefo_packed_i64x2_bitmask(gatulefo_v128 a);
  * cond r 1 0 ≡ any-true (number a) */
 bool gatulefo_packed_v128_any_true(gatulefo_v128 a);
 
-/* Lanes of 8 bits in another order: swizzle by the lanes of a second vector, shuffle of two vectors by sixteen indices. An index above 31 is refused with 5. Behind
- * `gatulefo_value_` the indices are the lanes of a third vector, and what comes back is the vector alone, 0 where it is refused. */
+/* Lanes of 8 bits in another order: swizzle by the lanes of a second vector, shuffle of two vectors by sixteen indices. An index above 31 is refused with 5.
+ * Behind `gatulefo_value_` the indices are the lanes of a third vector, and what comes back is the vector alone, 0 where it is refused. */
 
 /* Sixteen bytes picked from two vectors: indices 0 to 15 name the bytes of the first, 16 to 31 those of the second.
  * (number (r .vector), r .refused) ≡ pair (at-indices (now (s .entry)) (shuffle (now (s .entry)) (number a) (number b))) */
@@ -1239,7 +1241,8 @@ gatulefo_v128 gatulefo_f64x2_relaxed_max(gatulefo_v128 lhs, gatulefo_v128 rhs);
  * number r ≡ relaxed-q15mulr (number a) (number b) */
 gatulefo_v128 gatulefo_i16x8_relaxed_q15mulr_s(gatulefo_v128 a, gatulefo_v128 b);
 
-/* Replace: a new vector with one lane changed; a lane number not below the lane count is refused with 4. Behind `gatulefo_value_` the vector alone, 0 where it is refused. */
+/* Replace: a new vector with one lane changed; a lane number not below the lane count is refused with 4. Behind `gatulefo_value_` the vector alone, 0 where it
+ * is refused. */
 
 /* The vector with one of its two 64-bit lanes replaced by the bits.
  * (number (r .vector), r .refused) ≡ pair (at-lane 64 lane (replace 64 (number v) lane bits)) */
@@ -1289,8 +1292,9 @@ gatulefo_v128 gatulefo_value_f64x2_replace_lane(gatulefo_v128 v, uint8_t lane, u
  * number r ≡ or-zero (at-lane 32 lane (replace 32 (number v) lane bits)) */
 gatulefo_v128 gatulefo_value_f32x4_replace_lane(gatulefo_v128 v, uint8_t lane, uint32_t bits);
 
-/* i8x16 add, exclusive-or and popcnt over a lent row of vectors, written over the first row (document 02, order 6). A row is of 64-bit halves, two a vector, the low one
- * first. What comes back is the number of the refusal, 12 where the rows differ in length or a row has an odd number of halves, or 0; nothing is written where there is one. */
+/* i8x16 add, exclusive-or and popcnt over a lent row of vectors, written over the first row (document 02, order 6). A row is of 64-bit halves, two a vector,
+ * the low one first. What comes back is the number of the refusal, 12 where the rows differ in length or a row has an odd number of halves, or 0; nothing is
+ * written where there is one. */
 
 /* Of a whole row, in place. The sums of sixteen 8-bit lanes, modulo 2^8.
  * r ≡ half-refusal (length (now (first .entry))) (length (now (second .entry)))
@@ -1307,8 +1311,8 @@ uint8_t gatulefo_row_v128_xor(uint64_t *first, size_t first_length, const uint64
  * now (first .exit) ≡ after r (halves (map (unary 8 (ipopcnt 8)) (vectors (now (first .entry))))) (now (first .entry)) */
 uint8_t gatulefo_row_i8x16_popcnt(uint64_t *first, size_t first_length);
 
-/* Captures of any length (document 02, order 5, every position): where a marker stands and stands again one frame later, in order, each once, from pieces of any
- * size. The caller keeps the state from one call to the next and lends a window of more than (length + 38) / 8 bytes, 8,197 for any length, and a table of
+/* Captures of any length (document 02, order 5, every position): where a marker stands and stands again one frame later, in order, each once, from pieces of
+ * any size. The caller keeps the state from one call to the next and lends a window of more than (length + 38) / 8 bytes, 8,197 for any length, and a table of
  * columns. Ask for meetings until there is none before the next piece is fed: then some bytes of each piece are taken. */
 
 /* The columns of a marker and a tolerance, made once for a scan.
@@ -1382,10 +1386,11 @@ gatulefo_v128 gatulefo_i64x2_shr_s(gatulefo_v128 v, uint32_t count);
  * number r ≡ unary 64 (ishr-u 64 count) (number v) */
 gatulefo_v128 gatulefo_i64x2_shr_u(gatulefo_v128 v, uint32_t count);
 
-/* How far past the end an access runs that is refused with 7 (document 02, order 9). Every load and store hands this back with its 7; here it is asked of an access by itself. */
+/* How far past the end an access runs that is refused with 7 (document 02, order 9). Every load and store hands this back with its 7; here it is asked of an
+ * access by itself. */
 
-/* The exact end of the access of so many bytes minus the length of the memory, at most 2^64-1; 0 where the access is allowed. The address of an `_at` function is
- * `ptr`, with the offset 0.
+/* The exact end of the access of so many bytes minus the length of the memory, at most 2^64-1; 0 where the access is allowed. The address of an `_at` function
+ * is `ptr`, with the offset 0.
  * r ≡ access-numbers (within (now (memory .entry)) (ptr + offset) bytes (ptr + offset)) .1 */
 uint64_t gatulefo_shortfall(const uint8_t *memory, size_t memory_length, uint64_t ptr, uint64_t offset, size_t bytes);
 
@@ -1457,9 +1462,9 @@ gatulefo_stored gatulefo_v128_store64_lane(uint8_t *memory, size_t memory_length
  * (r .shortfall, r .refused, now (memory .exit)) ≡ store-numbers (stored (store-lane 64 (number value) lane (now (memory .entry)) address) (now (memory .entry))) */
 gatulefo_stored gatulefo_v128_store64_lane_at(uint8_t *memory, size_t memory_length, size_t address, gatulefo_v128 value, uint8_t lane);
 
-/* i8x16 add, exclusive-or and popcnt over a lent row of vectors, written over the first row (document 02, order 6), in the form that the order names: a row is a slice of
- * vectors. What comes back of two rows is the number of the refusal, 12 where they differ in length, or 0; nothing is written where there is one. The texts are those of the
- * crate `row_vectors`, since its laws are of a text (row_vectors/proofs/TwoRows.antt, OneRow.antt). */
+/* i8x16 add, exclusive-or and popcnt over a lent row of vectors, written over the first row (document 02, order 6), in the form that the order names: a row is
+ * a slice of vectors. What comes back of two rows is the number of the refusal, 12 where they differ in length, or 0; nothing is written where there is one.
+ * The texts are those of the crate `row_vectors`, since its laws are of a text (row_vectors/proofs/TwoRows.antt, OneRow.antt). */
 
 /* Of a whole row, in place. The sums of sixteen 8-bit lanes, modulo 2^8.
  * Combined (binary 8 (iadd 8)) (now (first .entry)) (now (second .entry)) r (now (first .exit)) */

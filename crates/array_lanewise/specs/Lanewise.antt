@@ -3,7 +3,9 @@
 use Prim.Native.Nat.{ℕ}
 use mathlib.Core.List.{List, [], _∷_, _++_}
 use lib.ListN.{getD, take}
-use Rattle.standard.specs.Integer.{iadd, isub, imul, ineg, iabs, ipopcnt, imin-u, imin-s, imax-u, imax-s, iadd-sat-u, iadd-sat-s, isub-sat-u, isub-sat-s, iavgr-u, iq15mulrsat-s, ishl, ishr-u, ishr-s, ieq, ine, ilt-u, igt-u, ile-u, ige-u, ilt-s, igt-s, ile-s, ige-s, extend-u, extend-s}
+use Rattle.standard.specs.Integer.{iadd, isub, imul, ineg, iabs, ipopcnt, imin-u, imin-s, imax-u, imax-s, iadd-sat-u, iadd-sat-s, isub-sat-u, isub-sat-s}
+use Rattle.standard.specs.Integer.{iavgr-u, iq15mulrsat-s, ishl, ishr-u, ishr-s, ieq, ine, ilt-u, igt-u, ile-u, ige-u, ilt-s, igt-s, ile-s, ige-s, extend-u}
+use Rattle.standard.specs.Integer.{extend-s}
 use Rattle.lane_width.specs.Widen.{pair-sum, pair-product}
 
 -- What lanes of every width have.

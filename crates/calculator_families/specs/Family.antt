@@ -6,7 +6,8 @@ use mathlib.Core.Option.{Option}
 use mathlib.Core.Option as option
 use lib.Dec.{eqb}
 use Rattle.standard.specs.Refusal.{Answer, given, refused, at-lane}
-use Rattle.standard.specs.Instruction.{Kind, kind-number, i32, Instruction, none, memory, const, shuffled, vector₁, vector₂, vector₃, shifted, tested, splatted, extracted, replaced}
+use Rattle.standard.specs.Instruction.{Kind, kind-number, i32, Instruction, none, memory, const, shuffled, vector₁, vector₂, vector₃, shifted, tested, splatted}
+use Rattle.standard.specs.Instruction.{extracted, replaced}
 
 -- What is given, and otherwise a number, or a scalar of a kind and otherwise i32 0.
 abbrev pub given-or : ℕ → Answer ℕ → ℕ

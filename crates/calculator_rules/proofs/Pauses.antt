@@ -10,7 +10,8 @@ use lib.Seq.{drop-drop}
 use lib.Dec.{leb, eqb}
 use borrow.Author.Tests.{leb-true, leb-false, le-leb, lt-leb, eqb-true, ne-eqb}
 use Rattle.standard.specs.Refusal.{Answer, given, refused}
-use Rattle.calculator_rules.specs.Definition.{Machine, Outcome, ended, paused, stopped, Ending, nothing-done, counting, after, step, steps, whole-steps, list-refusal, taken-up, run}
+use Rattle.calculator_rules.specs.Definition.{Machine, Outcome, ended, paused, stopped, Ending, nothing-done, counting, after, step, steps, whole-steps}
+use Rattle.calculator_rules.specs.Definition.{list-refusal, taken-up, run}
 use Rattle.calculator_rules.proofs.Judged.{one}
 
 pub twice : (a b : ℕ) (e : Ending) → counting a (counting b e) ≡ counting (a + b) e

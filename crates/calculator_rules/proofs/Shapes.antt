@@ -1,6 +1,7 @@
 -- What a shape asks is what its instruction asks. Assumes nothing.
 use mathlib.Core.Path.{_≡_, refl}
-use Rattle.standard.specs.Instruction.{Kind, i32, i64, f32, f64, Instruction, none, memory, const, shuffled, vector₁, vector₂, vector₃, shifted, tested, splatted, extracted, replaced}
+use Rattle.standard.specs.Instruction.{Kind, i32, i64, f32, f64, Instruction, none, memory, const, shuffled, vector₁, vector₂, vector₃, shifted, tested}
+use Rattle.standard.specs.Instruction.{splatted, extracted, replaced}
 use Rattle.calculator_rules.specs.Definition.{profile}
 use Rattle.calculator_rules.specs.Shape.{the-kind, as-kind, shape, profile-of}
 

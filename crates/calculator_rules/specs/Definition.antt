@@ -8,7 +8,8 @@ use lib.Dec.{ltb, leb, eqb}
 use Rattle.standard.specs.Lanes.{joined}
 use Rattle.standard.specs.Vector.{shuffle}
 use Rattle.standard.specs.Refusal.{Answer, given, refused, legal}
-use Rattle.standard.specs.Instruction.{Kind, kind-number, i32, Instruction, none, memory, const, shuffled, vector₁, vector₂, vector₃, shifted, tested, splatted, extracted, replaced, instruction}
+use Rattle.standard.specs.Instruction.{Kind, kind-number, i32, Instruction, none, memory, const, shuffled, vector₁, vector₂, vector₃, shifted, tested, splatted}
+use Rattle.standard.specs.Instruction.{extracted, replaced, instruction}
 
 -- "State: 16 registers and one scalar. The scalar is an i32, an i64, an f32 or an f64": its kind and its bits. "Each register shall carry, beside its
 -- vector, the number of the step that last wrote it in this run, 1 to 256, or 0 if none" (order 1).

@@ -2,7 +2,8 @@
 use Prim.Native.Nat.{_/_}
 use mathlib.Core.Bool.{true, false}
 use mathlib.Core.List.{[], _∷_}
-use Rattle.standard.specs.Instruction.{Kind, i32, i64, f32, f64, Instruction, none, memory, const, shuffled, vector₁, vector₂, vector₃, shifted, tested, splatted, extracted, replaced}
+use Rattle.standard.specs.Instruction.{Kind, i32, i64, f32, f64, Instruction, none, memory, const, shuffled, vector₁, vector₂, vector₃, shifted, tested}
+use Rattle.standard.specs.Instruction.{splatted, extracted, replaced}
 use Rattle.calculator_rules.specs.Definition.{Profile, from-vectors, no-step, profile}
 use Rattle.calculator_rules.specs.declared.shape.Kind as code
 use Rattle.calculator_rules.specs.declared.shape.Shape.{Shape}

@@ -35,8 +35,8 @@ impl State {
     }
 }
 
-// Of the numbers beside the registers: "A run resets all of them to 0 as it starts" (document 02, order 1); "taking up above place 0 does not reset them" (order
-// 12).
+// Of the numbers beside the registers: "A run resets all of them to 0 as it starts" (document 02, order 1); "taking up above place 0 does not reset them"
+// (order 12).
 pub fn take_up(writers: &mut [u16; 16], place: usize)
     ensures { λ r. ⌜ ((w : List ℕ) (s : Scalar) → held w (now (writers .exit)) s ≡ taken-up place (held w (now (writers .entry)) s)) ⌝ }
 {

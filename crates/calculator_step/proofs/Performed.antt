@@ -8,7 +8,8 @@ use lib.Dec.{ltb, leb, eqb}
 use types.Run.{OneOf, miss}
 use denote.Enum.Declared.{tagOf}
 use borrow.Author.Tests.{leb-true, ne-eqb}
-use Rattle.standard.specs.Instruction.{Kind, Instruction, none, memory, const, shuffled, vector₁, vector₂, vector₃, shifted, tested, splatted, extracted, replaced, instruction}
+use Rattle.standard.specs.Instruction.{Kind, Instruction, none, memory, const, shuffled, vector₁, vector₂, vector₃, shifted, tested, splatted, extracted}
+use Rattle.standard.specs.Instruction.{replaced, instruction}
 use Rattle.standard.specs.Refusal.{legal, given, refused}
 use Rattle.calculator_rules.specs.Definition.{Machine, Profile, profile, all-registers, used, lane, indices, right-kind, refusal, effect, operation, step}
 use Rattle.calculator_rules.specs.Shape.{shape, profile-of}

@@ -72,7 +72,8 @@ fn make(w: &[u64; 32], scalar: Scalar, shape: Shape, op: u16, mark: u8, s: &[u8]
     }
 }
 
-// "Extract, bitmask, any-true and all-true set [the scalar]"; every other step writes its vector to the destination. Whatever numbers stand beside the registers.
+// "Extract, bitmask, any-true and all-true set [the scalar]"; every other step writes its vector to the destination. Whatever numbers stand beside the
+// registers.
 fn perform(w: &mut [u64; 32], scalar: Scalar, shape: Shape, op: u16, s: &[u8]) -> Stepped
     ensures passed { λ r. ⌜ r .refused ≡ 0 ⌝ }
     ensures state { λ r. ⌜ ((n : List ℕ) → held (now (w .exit)) n (r .scalar) ≡ sets shape (instruction op) (held (now (w .entry)) n scalar) (now (s .entry))) ⌝ }

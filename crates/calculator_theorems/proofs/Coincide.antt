@@ -1,4 +1,5 @@
--- Any two endings that a run's promise allows coincide: in the registers, their writers, the scalar's kind and bits, the count and how it stopped. Assumes nothing.
+-- Any two endings that a run's promise allows coincide: in the registers, their writers, the scalar's kind and bits, the count and how it stopped. Assumes
+-- nothing.
 use mathlib.Core.Path.{_≡_, refl, ap}
 use mathlib.Core.List.{List, [], _∷_, map}
 use Prim.Native.Nat.{ℕ}

@@ -7,7 +7,8 @@ use native.Mathlib.Omega.{arith}
 use lib.ListN.{length, getD, take, drop, replicate, length-drop}
 use lib.Seq.{getD-take, getD-drop}
 use Rattle.standard.specs.Refusal.{Answer, given, refused}
-use Rattle.standard.specs.Instruction.{Instruction, none, memory, const, shuffled, vector₁, vector₂, vector₃, shifted, tested, splatted, extracted, replaced, instruction}
+use Rattle.standard.specs.Instruction.{Instruction, none, memory, const, shuffled, vector₁, vector₂, vector₃, shifted, tested, splatted, extracted, replaced}
+use Rattle.standard.specs.Instruction.{instruction}
 use Rattle.calculator_rules.specs.Definition.{Machine, Ending, counting, taken-up, bytes, operation, profile, refusal, effect, answer, step, after, steps, run}
 
 -- Lists of one length, with the same byte at each place but bytes 7 to 15 of a step.

@@ -13,8 +13,10 @@ use lib.ListN.{length, getD, set, take, drop, replicate, length-set}
 use lib.Seq.{getD-set-same, getD-set-other, drop-drop}
 use borrow.Author.Tests.{leb-true, eqb-true, eqb-false, eq-eqb}
 use Rattle.standard.specs.Refusal.{Answer, given, refused}
-use Rattle.standard.specs.Instruction.{Instruction, none, memory, const, shuffled, vector₁, vector₂, vector₃, shifted, tested, splatted, extracted, replaced, instruction}
-use Rattle.calculator_rules.specs.Definition.{Machine, Ending, operation, destination, profile, refusal, effect, answer, step, after, counting, nothing-done, stopped, steps, list-refusal, taken-up, run}
+use Rattle.standard.specs.Instruction.{Instruction, none, memory, const, shuffled, vector₁, vector₂, vector₃, shifted, tested, splatted, extracted, replaced}
+use Rattle.standard.specs.Instruction.{instruction}
+use Rattle.calculator_rules.specs.Definition.{Machine, Ending, operation, destination, profile, refusal, effect, answer, step, after, counting, nothing-done}
+use Rattle.calculator_rules.specs.Definition.{stopped, steps, list-refusal, taken-up, run}
 use Rattle.calculator_rules.proofs.Judged.{one}
 use Rattle.calculator_rules.proofs.Pauses.{never-above}
 

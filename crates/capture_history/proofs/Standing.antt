@@ -100,7 +100,8 @@ module _ (m t L : ℕ) (X window : List ℕ) (s : Scan) (h : Stands L X window s
       let count : place r ≡ places L (length (bits X)) = omega (arith, length-bits X) in
       ap (λ (n : ℕ). all-from (bits X) (marker-bits m) t L n 0) count
 
-  pub told-met : (n q d e : ℕ) → n ≡ 8 * s .filled - (L + 31) - s .from → first-from (bits (take (s .filled) window)) (marker-bits m) t L n (s .from) ≡ found q d e
+  pub told-met : (n q d e : ℕ) → n ≡ 8 * s .filled - (L + 31) - s .from → first-from (bits (take (s .filled) window)) (marker-bits m) t L n (s .from)
+      ≡ found q d e
       → Told m t L X window s (Next.Met (8 * s .before + q) d e (record { before = s .before; filled = s .filled; from = q + 1 }))
   told-met n q d e count f =
       let all = h .all in

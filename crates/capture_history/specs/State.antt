@@ -30,7 +30,8 @@ given m t L X s = all-from (bits X) (marker-bits m) t L (place s) 0
 abbrev pub Told : ℕ → ℕ → ℕ → List ℕ → List ℕ → Scan → Next → Type 0
 Told m t L X window s (Next.Met p d e r) = (Stands L X window r) × (given m t L X r ≡ given m t L X s ++ (met p d e ∷ []))
 Told m t L X window s (Next.More r) =
-    (Stands L X window r) × (given m t L X r ≡ given m t L X s) × (given m t L X r ≡ meetings (bits X) (marker-bits m) t L) × (place r ≡ places L (8 * length X))
+    (Stands L X window r) × (given m t L X r ≡ given m t L X s) × (given m t L X r ≡ meetings (bits X) (marker-bits m) t L)
+    × (place r ≡ places L (8 * length X))
 
 -- the same capture in another window
 pub record Kept (L : ℕ) (X window : List ℕ) (s r : Scan) : Type 0 where

@@ -91,7 +91,8 @@ module _ (m : List ℕ) (t L : ℕ) where
       by false e rest = rw e rest
 
 -- What the finder answers, where it does not refuse with 8, 9 or 10, is the first of them.
-pub finder-first : (buffer : List ℕ) (marker t L : ℕ) → refusal buffer t L ≡ 0 → find buffer marker t L ≡ first-of (meetings (bits buffer) (marker-bits marker) t L)
+pub finder-first : (buffer : List ℕ) (marker t L : ℕ) → refusal buffer t L ≡ 0 → find buffer marker t L
+    ≡ first-of (meetings (bits buffer) (marker-bits marker) t L)
 unfolding meetings
 finder-first buffer marker t L e =
     let room = admitted buffer t L e .room in

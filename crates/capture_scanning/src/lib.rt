@@ -1,5 +1,5 @@
-// Every meeting of a capture of any length that comes in pieces. The caller lends a window, which holds the capture's last bytes, and the marker's columns; what
-// else is to be known from one call to the next is a value of three numbers.
+// Every meeting of a capture of any length that comes in pieces. The caller lends a window, which holds the capture's last bytes, and the marker's columns;
+// what else is to be known from one call to the next is a value of three numbers.
 ghost use Prim.Native.Nat.{ℕ, _+_, _≤_};
 ghost use mathlib.Core.Path.{_≡_};
 ghost use mathlib.Core.List.{List, []};

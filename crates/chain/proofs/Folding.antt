@@ -1,5 +1,5 @@
--- The folding's loop over the links: the bytes of the current vector, each by where it stands in a and b, make the same of the links that are left as the chain of
--- the bytes 0 to 31 does.
+-- The folding's loop over the links: the bytes of the current vector, each by where it stands in a and b, make the same of the links that are left as the chain
+-- of the bytes 0 to 31 does.
 -- Assumes nothing.
 use mathlib.Core.Path.{_≡_, refl, sym, ap, _∙_}
 use mathlib.Core.Bool.{true}

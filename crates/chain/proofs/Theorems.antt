@@ -1,5 +1,5 @@
--- Document 02, order 13: "Prove that for every chain of 0 to 16 links one list of sixteen indices gives the same result by one shuffle of a and b, for all a and b. Two
--- different lists differ for some a and b." Of the definition; links have their seventeen bytes (`Whole`), and vectors are below 2^128.
+-- Document 02, order 13: "Prove that for every chain of 0 to 16 links one list of sixteen indices gives the same result by one shuffle of a and b, for all a
+-- and b. Two different lists differ for some a and b." Of the definition; links have their seventeen bytes (`Whole`), and vectors are below 2^128.
 --     one-shuffle      one shuffle by the folded list is the chain, for all a and b
 --     differ           two different lists of sixteen legal indices differ on the bytes 0 to 15 and 16 to 31
 --     only             so the folded list is the only one;  legal-list: it is sixteen legal indices;  no-link: of no link it is 0 to 15
@@ -19,10 +19,12 @@ use Rattle.standard.specs.Vector.{shuffle}
 use Rattle.standard.specs.Refusal.{given, refused, legal, at-indices}
 use Rattle.standard.proofs.Digits.{Below, length-digits, lanes-determine}
 use Rattle.standard.proofs.Halves.{map-append}
-use Rattle.chain.specs.Definition.{indices, partner, chained, all-legal, refusal, answered, applied, counted, low-places, high-places, folded, Does, OneShuffle}
+use Rattle.chain.specs.Definition.{indices, partner, chained, all-legal, refusal, answered, applied, counted, low-places, high-places, folded, Does}
+use Rattle.chain.specs.Definition.{OneShuffle}
 use Rattle.chain.proofs.Judging.{both, unrefused}
 use Rattle.chain.proofs.Lists.{partner-of, partner-has, picked-below, counted-below}
-use Rattle.chain.proofs.Bytes.{Whole, shuffled, chained-bytes, length-indices, length-shuffled, shuffle-lt, lanes-shuffle, lanes-chained, folded-bytes, chained-lt}
+use Rattle.chain.proofs.Bytes.{Whole, shuffled, chained-bytes, length-indices, length-shuffled, shuffle-lt, lanes-shuffle, lanes-chained, folded-bytes}
+use Rattle.chain.proofs.Bytes.{chained-lt}
 
 -- an index of a legal list
 first-legal : (i : ℕ) (is : List ℕ) → legal (i ∷ is) ≡ true → (i < 32) × (legal is ≡ true)

@@ -1,5 +1,5 @@
--- Chains of shuffles (document 02, order 13): "Start from two vectors a and b, with a as the current one. Each link shuffles the current vector (the first) with a,
--- b or itself, by its own sixteen legal indices." A link is its seventeen bytes: its partner, then its indices. A vector is its number.
+-- Chains of shuffles (document 02, order 13): "Start from two vectors a and b, with a as the current one. Each link shuffles the current vector (the first)
+-- with a, b or itself, by its own sixteen legal indices." A link is its seventeen bytes: its partner, then its indices. A vector is its number.
 use Prim.Native.Nat.{ℕ, zero, suc, _^_, _<_}
 use mathlib.Core.Path.{_≡_}
 use mathlib.Core.Bool.{Bool, true, false, cond}
@@ -53,8 +53,8 @@ low-places = joined 8 (counted 16 0)
 abbrev pub high-places : ℕ
 high-places = joined 8 (counted 16 16)
 
--- "one list of sixteen indices gives the same result by one shuffle of a and b": the bytes that the chain makes of these two. That it does, for all a and b, and that no
--- other does, is proved (proofs/Theorems) and promised of what `fold` writes.
+-- "one list of sixteen indices gives the same result by one shuffle of a and b": the bytes that the chain makes of these two. That it does, for all a and b,
+-- and that no other does, is proved (proofs/Theorems) and promised of what `fold` writes.
 unfoldable pub folded : List (List ℕ) → List ℕ
 folded links = lanes 8 (chained links low-places high-places low-places)
 

@@ -50,8 +50,8 @@ fn near(word: u64, marker: u32, tolerance: u32) -> bool
     any
 }
 
-// The search among the first positions of a byte and the next, one by one, but for some that are skipped. The windows a frame later stand in one word, too: the one that ends where the last of
-// them ends.
+// The search among the first positions of a byte and the next, one by one, but for some that are skipped. The windows a frame later stand in one word, too: the
+// one that ends where the last of them ends.
 fn among(
     buffer: &[u8],
     at: usize,

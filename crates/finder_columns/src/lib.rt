@@ -1,5 +1,5 @@
-// Columns for the marker finder (document 02, order 5): five tables of 256 entries, a sum of which tells for the eight windows that begin in a byte whether they
-// are too far from the marker.
+// Columns for the marker finder (document 02, order 5): five tables of 256 entries, a sum of which tells for the eight windows that begin in a byte whether
+// they are too far from the marker.
 ghost use Prim.Native.Nat.{ℕ, _+_, _*_, _<_, _≤_};
 ghost use mathlib.Core.Path.{_≡_};
 ghost use lib.Bits.{bitAnd, bitXor};

@@ -23,6 +23,7 @@ lanes-are-distances a m ha hm =
 pub windows-are-counted : (stream : List ℕ) (p₀ p₁ p₂ p₃ a m : ℕ) → a < 2 ^ 128 → m < 2 ^ 32
     → map (binary 32) (lanes 32 a) ≡ window stream p₀ ∷ window stream p₁ ∷ window stream p₂ ∷ window stream p₃ ∷ []
     → lanes 32 (correlated a m)
-    ≡ distance (window stream p₀) (marker-bits m) ∷ distance (window stream p₁) (marker-bits m) ∷ distance (window stream p₂) (marker-bits m) ∷ distance (window stream p₃)
+    ≡ distance (window stream p₀) (marker-bits m) ∷ distance (window stream p₁) (marker-bits m) ∷ distance (window stream p₂) (marker-bits m)
+    ∷ distance (window stream p₃)
     (marker-bits m) ∷ []
 windows-are-counted stream p₀ p₁ p₂ p₃ a m ha hm e = lanes-are-distances a m ha hm ∙ ap (map (λ (v : List ℕ). distance v (marker-bits m))) e

@@ -1,4 +1,5 @@
--- The distances of 256 windows that follow each other, laid by their place in a byte: entry 32 * k + j is that of the window that begins 8 * j + k bits after the first.
+-- The distances of 256 windows that follow each other, laid by their place in a byte: entry 32 * k + j is that of the window that begins 8 * j + k bits after
+-- the first.
 use Prim.Native.Nat.{ℕ, _+_, _*_, _/_, _%_, _<_}
 use mathlib.Core.Path.{_≡_}
 use mathlib.Core.List.{List}

@@ -1,5 +1,5 @@
-// The distances of 256 windows of a buffer that follow each other, each the count of ones of an exclusive-or of two words. No turn of a loop decides anything, and
-// neighbours in an array have the same shift, so the compiler takes four at once.
+// The distances of 256 windows of a buffer that follow each other, each the count of ones of an exclusive-or of two words. No turn of a loop decides anything,
+// and neighbours in an array have the same shift, so the compiler takes four at once.
 ghost use Prim.Native.Nat.{ℕ, _+_, _*_, _-_, _/_, _%_, _^_, _<_, _≤_};
 ghost use mathlib.Core.Path.{_≡_};
 ghost use mathlib.Core.List.{List};

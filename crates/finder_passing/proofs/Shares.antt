@@ -115,5 +115,6 @@ pub shares : (bs : List ℕ) (at r m : ℕ) → at + 5 ≤ length bs → r < 8 �
     (differing m 3 r (getD bs (at + 3) 0))
     + ones (differing m 4 r (getD bs (at + 4) 0))
 shares bs at r m h hr hm h0 h1 h2 h3 h4 =
-    ap (λ (l : List ℕ). distance l (marker-bits m)) (sym (window-inside bs at 5 r h (omega arith)) ∙ ap (λ (l : List ℕ). window (bits l) r) (spelt-all bs at 5 h))
+    ap (λ (l : List ℕ). distance l (marker-bits m)) (sym (window-inside bs at 5 r h (omega arith))
+    ∙ ap (λ (l : List ℕ). window (bits l) r) (spelt-all bs at 5 h))
     ∙ five-shares (getD bs (at + 0) 0) (getD bs (at + 1) 0) (getD bs (at + 2) 0) (getD bs (at + 3) 0) (getD bs (at + 4) 0) m r h0 h1 h2 h3 h4 hm hr

@@ -95,4 +95,5 @@ distance-words w m hw hm = distance-ones 32 w m ∙ ap₂ (λ (a b : ℕ). ones 
 -- a window of a word that holds eight bytes of a buffer
 pub distance-inside : (bs : List ℕ) (at k w m : ℕ) → at + 8 ≤ length bs → k ≤ 32 → binary 64 w ≡ bits (take 8 (drop at bs))
     → distance (window (binary 64 w) k) (marker-bits m) ≡ distance (window (bits bs) (8 * at + k)) (marker-bits m)
-distance-inside bs at k w m h hk e = ap (λ (l : List ℕ). distance l (marker-bits m)) (ap (λ (l : List ℕ). window l k) e ∙ window-inside bs at 8 k h (omega arith))
+distance-inside bs at k w m h hk e =
+    ap (λ (l : List ℕ). distance l (marker-bits m)) (ap (λ (l : List ℕ). window l k) e ∙ window-inside bs at 8 k h (omega arith))

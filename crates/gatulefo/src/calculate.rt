@@ -1,5 +1,5 @@
-// The calculator (document 01, "The calculator (added)"; document 02, orders 1, 2 and 12): a run of a list of steps from a place under a limit. The registers are 32
-// words, two a register, low half first; beside each stands the number of the step that wrote it.
+// The calculator (document 01, "The calculator (added)"; document 02, orders 1, 2 and 12): a run of a list of steps from a place under a limit. The registers
+// are 32 words, two a register, low half first; beside each stands the number of the step that wrote it.
 ghost use mathlib.Core.Path.{_≡_};
 ghost use Rattle.calculator_rules.specs.Definition;
 ghost use Rattle.calculator_state.specs.State.{vectors};

@@ -1,5 +1,6 @@
 // Loads that hand back the vector alone, in two registers: 0 where the load is refused. Whether a 0 is a refusal, `gatulefo_shortfall` says. For an interpreter
-// whose handlers end in a jump to the next, since a handler that lends a place on its stack cannot. The address of an `_at` function is `ptr`, with the offset 0.
+// whose handlers end in a jump to the next, since a handler that lends a place on its stack cannot. The address of an `_at` function is `ptr`, with the
+// offset 0.
 // Made by link/exports.
 ghost use Rattle.link_answers.specs.Handed.{access-or-zero};
 ghost use Rattle.simd.specs.Number.{number};

@@ -1,5 +1,5 @@
-// Lanes of 8 bits in another order: swizzle by the lanes of a second vector, shuffle of two vectors by sixteen indices. An index above 31 is refused with 5. Behind
-// `gatulefo_value_` the indices are the lanes of a third vector, and what comes back is the vector alone, 0 where it is refused.
+// Lanes of 8 bits in another order: swizzle by the lanes of a second vector, shuffle of two vectors by sixteen indices. An index above 31 is refused with 5.
+// Behind `gatulefo_value_` the indices are the lanes of a third vector, and what comes back is the vector alone, 0 where it is refused.
 ghost use Rattle.link_answers.specs.Handed.{pair, or-zero};
 ghost use Rattle.simd.specs.Number.{number};
 ghost use Rattle.standard.specs.Lanes.{lanes};

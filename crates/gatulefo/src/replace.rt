@@ -1,4 +1,5 @@
-// Replace: a new vector with one lane changed; a lane number not below the lane count is refused with 4. Behind `gatulefo_value_` the vector alone, 0 where it is refused.
+// Replace: a new vector with one lane changed; a lane number not below the lane count is refused with 4. Behind `gatulefo_value_` the vector alone, 0 where it
+// is refused.
 ghost use Rattle.link_answers.specs.Handed.{pair, or-zero};
 ghost use Rattle.simd.specs.Number.{number};
 ghost use Rattle.standard.specs.Lanes.{replace};

@@ -1,5 +1,6 @@
-// i8x16 add, exclusive-or and popcnt over a lent row of vectors, written over the first row (document 02, order 6). A row is of 64-bit halves, two a vector, the low one
-// first. What comes back is the number of the refusal, 12 where the rows differ in length or a row has an odd number of halves, or 0; nothing is written where there is one.
+// i8x16 add, exclusive-or and popcnt over a lent row of vectors, written over the first row (document 02, order 6). A row is of 64-bit halves, two a vector,
+// the low one first. What comes back is the number of the refusal, 12 where the rows differ in length or a row has an odd number of halves, or 0; nothing is
+// written where there is one.
 ghost use mathlib.Core.Path.{_≡_};
 ghost use mathlib.Core.List.{map};
 ghost use lib.ListN.{length};

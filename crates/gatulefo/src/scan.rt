@@ -1,5 +1,5 @@
-// Captures of any length (document 02, order 5, every position): where a marker stands and stands again one frame later, in order, each once, from pieces of any
-// size. The caller keeps the state from one call to the next and lends a window of more than (length + 38) / 8 bytes, 8,197 for any length, and a table of
+// Captures of any length (document 02, order 5, every position): where a marker stands and stands again one frame later, in order, each once, from pieces of
+// any size. The caller keeps the state from one call to the next and lends a window of more than (length + 38) / 8 bytes, 8,197 for any length, and a table of
 // columns. Ask for meetings until there is none before the next piece is fed: then some bytes of each piece are taken.
 ghost use Prim.Native.Nat.{ℕ, _≤_};
 ghost use mathlib.Core.Path.{_≡_};

@@ -1,6 +1,6 @@
-// i8x16 add, exclusive-or and popcnt over a lent row of vectors, written over the first row (document 02, order 6), in the form that the order names: a row is a slice of
-// vectors. What comes back of two rows is the number of the refusal, 12 where they differ in length, or 0; nothing is written where there is one. The texts are those of the
-// crate `row_vectors`, since its laws are of a text (row_vectors/proofs/TwoRows.antt, OneRow.antt).
+// i8x16 add, exclusive-or and popcnt over a lent row of vectors, written over the first row (document 02, order 6), in the form that the order names: a row is
+// a slice of vectors. What comes back of two rows is the number of the refusal, 12 where they differ in length, or 0; nothing is written where there is one.
+// The texts are those of the crate `row_vectors`, since its laws are of a text (row_vectors/proofs/TwoRows.antt, OneRow.antt).
 ghost use Rattle.standard.specs.Integer.{iadd, ixor, ipopcnt};
 ghost use Rattle.standard.specs.Lanes.{unary, binary};
 ghost use Rattle.row_vectors.specs.Rows.{Combined, Mapped};

@@ -2,7 +2,9 @@
 use mathlib.Core.Path.{_≡_, refl, sym, ap, _∙_, subst}
 use mathlib.Core.Bool.{Bool, true, false, not, cond, _&&_}
 use Prim.Native.Nat.{ℕ, zero, suc, _+_, _-_, _*_, _/_, _%_, _^_, _≤_, _<_, zero-le, compare, Ordering, Ordering·lt, Ordering·eq, Ordering·gt}
-use native.Mathlib.Nat.{le-refl, le-suc, le-of-eq, lt-of-le-of-lt, lt-irrefl, zero-lt-suc, add-zero, add-assoc, one-mul, mul-comm, mul-right-comm, mul-mod-left, mod-lt, mod-eq-of-lt, mod-one, div-one, div-eq-of-lt, div-eq-of-lt-le, div-add-mod', mul-add-div-right, mul-div-cancel, eq-of-mul-eq-mul-right, pow-succ'}
+use native.Mathlib.Nat.{le-refl, le-suc, le-of-eq, lt-of-le-of-lt, lt-irrefl, zero-lt-suc, add-zero, add-assoc, one-mul, mul-comm, mul-right-comm, mul-mod-left}
+use native.Mathlib.Nat.{mod-lt, mod-eq-of-lt, mod-one, div-one, div-eq-of-lt, div-eq-of-lt-le, div-add-mod', mul-add-div-right, mul-div-cancel}
+use native.Mathlib.Nat.{eq-of-mul-eq-mul-right, pow-succ'}
 use native.Mathlib.Omega.{arith}
 use lib.Dec.{T, isLe, isEq, ltb, eqb, lt→ltb, ltb→lt, nltb→le, leb→le, nleb→lt, eqb→eq, eqb-refl, lit<}
 use lib.Arith.{lt-of-le-ne, le→nltb}

@@ -2,7 +2,9 @@
 use mathlib.Core.Path.{_≡_, refl, sym, ap, _∙_, subst}
 use mathlib.Core.Bool.{Bool, true, false, not, cond}
 use Prim.Native.Nat.{ℕ, zero, suc, _+_, _-_, _*_, _/_, _%_, _^_, _≤_, _<_, zero-le}
-use native.Mathlib.Nat.{le-trans, le-of-eq, le-of-suc-le-suc, lt-irrefl, zero-lt-suc, mod-lt, mod-mod, mod-eq-of-lt, mod-eq-sub-mod, mod-mod-of-dvd, dvd-mul-right, div-add-mod', div-lt-iff-lt-mul, sub-lt-left-of-lt-add, add-sub-of-le, le-add-right, add-comm, mul-comm, mul-pos, zero-add}
+use native.Mathlib.Nat.{le-trans, le-of-eq, le-of-suc-le-suc, lt-irrefl, zero-lt-suc, mod-lt, mod-mod, mod-eq-of-lt, mod-eq-sub-mod, mod-mod-of-dvd}
+use native.Mathlib.Nat.{dvd-mul-right, div-add-mod', div-lt-iff-lt-mul, sub-lt-left-of-lt-add, add-sub-of-le, le-add-right, add-comm, mul-comm, mul-pos}
+use native.Mathlib.Nat.{zero-add}
 use native.Mathlib.Omega.{arith}
 use lib.Dec.{T, leb, eqb, lt→ltb, leb→le, nleb→lt, eqb→eq, lit<}
 use lib.Arith.{lt→nleb}

@@ -3,7 +3,8 @@
 use mathlib.Core.Path.{_≡_, refl, sym, ap, ap₂, _∙_, subst}
 use mathlib.Core.Bool.{Bool, true, false, not, cond}
 use Prim.Native.Nat.{ℕ, suc, _+_, _-_, _*_, _%_, _^_, _≤_, _<_, min}
-use native.Mathlib.Nat.{le-trans, le-of-eq, lt-of-lt-of-le, zero-lt-suc, zero-mul, add-zero, mod-eq-of-lt, mul-one, mul-assoc, mul-le-mul-right, add-comm, zero-add, mul-right-comm}
+use native.Mathlib.Nat.{le-trans, le-of-eq, lt-of-lt-of-le, zero-lt-suc, zero-mul, add-zero, mod-eq-of-lt, mul-one, mul-assoc, mul-le-mul-right, add-comm}
+use native.Mathlib.Nat.{zero-add, mul-right-comm}
 use native.Mathlib.Omega.{arith}
 use lib.Dec.{T, ltb, leb, lt→ltb, leb→le, nleb→lt, lit≤}
 use lib.Arith.{le→nltb}

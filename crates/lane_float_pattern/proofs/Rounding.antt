@@ -4,7 +4,9 @@ use mathlib.Core.Path.{_≡_, refl, sym, ap, _∙_, subst}
 use mathlib.Core.Logic.{_⊎_, inl, inr}
 use mathlib.Core.Bool.{Bool, true, false, not, cond}
 use Prim.Native.Nat.{ℕ, zero, suc, _+_, _-_, _*_, _/_, _%_, _^_, _≤_, _<_, min, compare}
-use native.Mathlib.Nat.{le-trans, le-of-eq, le-of-lt, lt-of-lt-of-le, lt-of-le-of-lt, lt-of-not-le, lt-irrefl, le-antisymm, zero-add, zero-lt-suc, mul-one, one-mul, add-assoc, mul-le-mul-right, mul-div-cancel, div-one, div-div-eq-div-mul, le-div-iff-mul-le, le-of-mul-le-mul-right, eq-or-lt-of-le}
+use native.Mathlib.Nat.{le-trans, le-of-eq, le-of-lt, lt-of-lt-of-le, lt-of-le-of-lt, lt-of-not-le, lt-irrefl, le-antisymm, zero-add, zero-lt-suc, mul-one}
+use native.Mathlib.Nat.{one-mul, add-assoc, mul-le-mul-right, mul-div-cancel, div-one, div-div-eq-div-mul, le-div-iff-mul-le, le-of-mul-le-mul-right}
+use native.Mathlib.Nat.{eq-or-lt-of-le}
 use native.Mathlib.Omega.{arith}
 use lib.Dec.{T, ltb, ltb→lt, nltb→le, lit<}
 use lib.Pow.{pow-add, pow-pos, pow-mono, pow-lt, shl-lt}

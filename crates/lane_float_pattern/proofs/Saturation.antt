@@ -3,7 +3,8 @@ use mathlib.Core.Path.{_≡_, refl, sym, ap, _∙_}
 use mathlib.Core.Logic.{_⊎_, inl, inr}
 use mathlib.Core.Bool.{Bool, true, false, not, cond}
 use Prim.Native.Nat.{ℕ, zero, suc, _+_, _-_, _*_, _/_, _%_, _^_, _≤_, _<_, min}
-use native.Mathlib.Nat.{le-trans, le-of-eq, lt-of-lt-of-le, lt-of-le-of-lt, mul-assoc, mul-le-mul-right, le-div-iff-mul-le, div-eq-of-lt, eq-or-lt-of-le, lt-irrefl}
+use native.Mathlib.Nat.{le-trans, le-of-eq, lt-of-lt-of-le, lt-of-le-of-lt, mul-assoc, mul-le-mul-right, le-div-iff-mul-le, div-eq-of-lt, eq-or-lt-of-le}
+use native.Mathlib.Nat.{lt-irrefl}
 use native.Mathlib.Omega.{arith}
 use lib.IntN.{pos, negℤ}
 use lib.Dec.{T, ltb, leb, ltb→lt, nltb→le, lit<}
@@ -14,7 +15,8 @@ use lib.Ieee.Exact.{HasValue}
 use lib.Ieee.Nearest.{div-same}
 use Rattle.standard.specs.Integer.{modulo}
 use Rattle.standard.specs.Convert.{trunc-sat-u}
-use Rattle.lane_float_pattern.proofs.Fields.{field, field-le, digits, magnitude, emax-some, digits-lt, led, by-sign, clear-value, clear-infinite, clear-nan, Clear, is-clear}
+use Rattle.lane_float_pattern.proofs.Fields.{field, field-le, digits, magnitude, emax-some, digits-lt, led, by-sign, clear-value, clear-infinite}
+use Rattle.lane_float_pattern.proofs.Fields.{clear-nan, Clear, is-clear}
 
 part-value : (x : Float) (a c : ℕ) → 0 < c → HasValue x false a c → toUnsigned 32 x ≡ min (a / c) (2 ^ 32 - 1)
 unfolding toUnsigned

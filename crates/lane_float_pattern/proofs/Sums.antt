@@ -4,7 +4,8 @@
 use mathlib.Core.Path.{_≡_, refl, sym, ap, _∙_}
 use mathlib.Core.Bool.{Bool, true, false, not, cond, _&&_}
 use Prim.Native.Nat.{ℕ, suc, _+_, _-_, _*_, _^_, _≤_, _<_}
-use native.Mathlib.Nat.{le-trans, le-of-eq, zero-lt-suc, mul-one, mul-comm, mul-assoc, mul-right-comm, add-mul, mul-sub, mul-pos, mul-lt-mul-of-pos-right, mul-le-mul-right}
+use native.Mathlib.Nat.{le-trans, le-of-eq, zero-lt-suc, mul-one, mul-comm, mul-assoc, mul-right-comm, add-mul, mul-sub, mul-pos, mul-lt-mul-of-pos-right}
+use native.Mathlib.Nat.{mul-le-mul-right}
 use native.Mathlib.Omega.{arith}
 use lib.IntN.{ℤ, pos, negsuc, natAbs, subℕ, _+ℤ_}
 use lib.Dec.{T, ltb, lt→ltb, ltb→lt, nltb→le}

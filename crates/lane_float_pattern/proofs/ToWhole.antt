@@ -4,7 +4,9 @@ use mathlib.Core.Path.{_≡_, refl, sym, ap, ap₂, _∙_, subst}
 use mathlib.Core.Logic.{_⊎_, inl, inr}
 use mathlib.Core.Bool.{Bool, true, false, not, cond, _&&_}
 use Prim.Native.Nat.{ℕ, zero, suc, _+_, _-_, _*_, _/_, _%_, _^_, _≤_, _<_, zero-le}
-use native.Mathlib.Nat.{le-refl, le-trans, le-of-eq, le-of-lt, lt-of-lt-of-le, lt-of-le-of-lt, lt-irrefl, zero-lt-suc, le-add-right, lt-of-mul-lt-mul-right, mul-lt-mul-of-pos-right, mul-pos, mod-lt, mul-one, one-mul, zero-mul, mul-comm, mul-assoc, mul-right-comm, mul-le-mul-right, add-mul, add-comm, add-assoc, eq-or-lt-of-le, pow-succ', le-div-iff-mul-le, div-lt-iff-lt-mul, mul-add-div-right, mul-mod-right}
+use native.Mathlib.Nat.{le-refl, le-trans, le-of-eq, le-of-lt, lt-of-lt-of-le, lt-of-le-of-lt, lt-irrefl, zero-lt-suc, le-add-right, lt-of-mul-lt-mul-right}
+use native.Mathlib.Nat.{mul-lt-mul-of-pos-right, mul-pos, mod-lt, mul-one, one-mul, zero-mul, mul-comm, mul-assoc, mul-right-comm, mul-le-mul-right, add-mul}
+use native.Mathlib.Nat.{add-comm, add-assoc, eq-or-lt-of-le, pow-succ', le-div-iff-mul-le, div-lt-iff-lt-mul, mul-add-div-right, mul-mod-right}
 use native.Mathlib.Omega.{arith}
 use lib.Dec.{T, ltb, leb, eqb, lt→ltb, ltb→lt, nltb→le, leb→le, nleb→lt}
 use lib.Arith.{le→nltb}
@@ -17,7 +19,8 @@ use lib.Ieee.Positive.{first-pos}
 use Rattle.standard.specs.Convert.{upward, integer, from, ffloor, fceil}
 use Rattle.lane_float_pattern.specs.Integral.{chosen, rounded, lift, rises}
 use Rattle.lane_float_pattern.proofs.Rounding.{toBits-of, written, twice-hid}
-use Rattle.lane_float_pattern.proofs.Fields.{field, lead, digits, magnitude, value, hid-pos, emax-some, two-fields, led-digits, not-a-number, infinite, field-le, digits-lt, led, pattern-is}
+use Rattle.lane_float_pattern.proofs.Fields.{field, lead, digits, magnitude, value, hid-pos, emax-some, two-fields, led-digits, not-a-number, infinite}
+use Rattle.lane_float_pattern.proofs.Fields.{field-le, digits-lt, led, pattern-is}
 use Rattle.lane_float_pattern.proofs.Chosen.{same-test, lifted, chosen-same, chosen-near, chosen-whole, chosen-below}
 
 -- ---- the pattern of a whole number n that is q * 2 ^ k units

@@ -1,5 +1,5 @@
-// Sum, difference, product and quotient of float lanes by their patterns (the standard, 4.3.3 "Floating-Point Operations"; document 02, order 4): each result is
-// the language's own, rounded once, and a NaN goes through.
+// Sum, difference, product and quotient of float lanes by their patterns (the standard, 4.3.3 "Floating-Point Operations"; document 02, order 4): each result
+// is the language's own, rounded once, and a NaN goes through.
 ghost use mathlib.Core.Path.{_≡_};
 ghost use lib.Ieee.{binary32, binary64};
 ghost use Rattle.standard.specs.Float.{fadd, fsub, fmul, fdiv};

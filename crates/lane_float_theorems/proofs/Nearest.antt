@@ -8,7 +8,8 @@ use mathlib.Core.Path.{_≡_, refl, sym, ap, _∙_, subst}
 use mathlib.Core.Bool.{Bool, true, false, cond, _&&_}
 use mathlib.Core.Logic.{_⊎_, inl, inr}
 use Prim.Native.Nat.{ℕ, zero, suc, _+_, _-_, _*_, _/_, _%_, _^_, _≤_, _<_, compare}
-use native.Mathlib.Nat.{mul-comm, mul-assoc, mul-right-comm, mul-one, one-mul, zero-mul, mul-pos, mul-le-mul-right, mul-lt-mul-of-pos-right, mul-div-cancel, div-div-eq-div-mul, eq-of-mul-eq-mul-right, lt-of-mul-lt-mul-right, le-trans, le-of-eq, lt-of-le-of-lt, lt-of-lt-of-le, zero-lt-suc}
+use native.Mathlib.Nat.{mul-comm, mul-assoc, mul-right-comm, mul-one, one-mul, zero-mul, mul-pos, mul-le-mul-right, mul-lt-mul-of-pos-right, mul-div-cancel}
+use native.Mathlib.Nat.{div-div-eq-div-mul, eq-of-mul-eq-mul-right, lt-of-mul-lt-mul-right, le-trans, le-of-eq, lt-of-le-of-lt, lt-of-lt-of-le, zero-lt-suc}
 use native.Mathlib.Omega.{arith}
 use borrow.Author.Tests.{leb-true, leb-false, ltb-true, ltb-false}
 use lib.IntN.{ℤ, pos, negsuc}

@@ -4,7 +4,8 @@ use mathlib.Core.Path.{_≡_, refl, sym, ap, _∙_, subst}
 use mathlib.Core.Bool.{Bool, true, false, not}
 use mathlib.Core.Logic.{inl, inr}
 use Prim.Native.Nat.{ℕ, zero, suc, _+_, _-_, _*_, _/_, _%_, _^_, _≤_, _<_, compare, Ordering, Ordering·lt, Ordering·eq, Ordering·gt}
-use native.Mathlib.Nat.{mul-comm, mul-assoc, mul-right-comm, mul-le-mul-right, mul-lt-mul-of-pos-right, mul-pos, div-add-mod', mod-lt, le-div-iff-mul-le, lt-of-lt-of-le, le-trans, le-of-eq}
+use native.Mathlib.Nat.{mul-comm, mul-assoc, mul-right-comm, mul-le-mul-right, mul-lt-mul-of-pos-right, mul-pos, div-add-mod', mod-lt, le-div-iff-mul-le}
+use native.Mathlib.Nat.{lt-of-lt-of-le, le-trans, le-of-eq}
 use native.Mathlib.Omega.{arith}
 use borrow.Author.Tests.{leb-true, leb-false}
 use lib.Dec.{T, isLe, isEq, leb, eqb, leb→le, nleb→lt, eqb→eq, eqb-refl}

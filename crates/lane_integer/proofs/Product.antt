@@ -2,7 +2,8 @@
 -- Assumes nothing.
 use mathlib.Core.Path.{_≡_, sym, ap, ap₂, _∙_, subst⁻¹}
 use Prim.Native.Nat.{ℕ, zero, suc, _+_, _*_, _/_, _%_, _^_, _<_}
-use native.Mathlib.Nat.{le-of-lt, lt-of-le-of-lt, lt-of-lt-of-le, mul-le-mul-left, mul-lt-mul-of-pos-right, mul-add, add-mul, mul-assoc, mul-right-comm, mul-mul-mul-comm, div-add-mod', add-mul-mod-self-right}
+use native.Mathlib.Nat.{le-of-lt, lt-of-le-of-lt, lt-of-lt-of-le, mul-le-mul-left, mul-lt-mul-of-pos-right, mul-add, add-mul, mul-assoc, mul-right-comm}
+use native.Mathlib.Nat.{mul-mul-mul-comm, div-add-mod', add-mul-mod-self-right}
 use native.Mathlib.Numerals.{add-one}
 use native.Mathlib.Omega.{arith}
 use lib.Arith.{lt-one}

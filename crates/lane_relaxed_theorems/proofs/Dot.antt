@@ -8,7 +8,8 @@ use lib.Dec.{eqb}
 use lib.IntN.{ℤ, _+ℤ_, _*ℤ_}
 use Rattle.standard.specs.Integer.{signed, modulo, sat-s, iadd, iadd-sat-s, imul, extend-s}
 use Rattle.lane_relaxed_theorems.specs.Allowed.{dotted}
-use Rattle.lane_relaxed_theorems.proofs.Whole.{Within, sum-within, sum-modulo, product-modulo, product-within, product-short, product-of-seven, plain, byte-within, lowest-byte, reads-back, not-capped, widened}
+use Rattle.lane_relaxed_theorems.proofs.Whole.{Within, sum-within, sum-modulo, product-modulo, product-within, product-short, product-of-seven, plain}
+use Rattle.lane_relaxed_theorems.proofs.Whole.{byte-within, lowest-byte, reads-back, not-capped, widened}
 
 -- what is given: the sum of the products of the bytes of two 16-bit lanes, modulo 2^16
 abbrev pub given : ℕ → ℕ → ℕ

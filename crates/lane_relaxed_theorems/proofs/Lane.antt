@@ -2,7 +2,8 @@
 use mathlib.Core.Path.{_≡_, refl, sym, ap, ap₂, _∙_, subst, subst⁻¹}
 use mathlib.Core.List.{List, [], _∷_, _++_}
 use Prim.Native.Nat.{ℕ, zero, suc, _+_, _-_, _*_, _/_, _%_, _^_, _<_, min, max}
-use native.Mathlib.Nat.{mul-zero, mul-suc, mul-one, mul-add, add-mul, two-mul, add-comm, one-mul, div-one, mod-lt, mod-add-div, mod-eq-of-lt, sub-self, sub-zero, not-suc-le-zero, le-of-suc-le-suc}
+use native.Mathlib.Nat.{mul-zero, mul-suc, mul-one, mul-add, add-mul, two-mul, add-comm, one-mul, div-one, mod-lt, mod-add-div, mod-eq-of-lt, sub-self}
+use native.Mathlib.Nat.{sub-zero, not-suc-le-zero, le-of-suc-le-suc}
 use native.Mathlib.Omega.{arith}
 use lib.Bits.{and-zero-r, or-zero-l, or-zero-r, and-mask}
 use lib.ListN.{length, getD}

@@ -1,5 +1,5 @@
--- What the program `lease` writes (document 02, order 12), as a list of ASCII codes: a line for each call of a run, then the listing that `lanes` writes, with the
--- counts added up.
+-- What the program `lease` writes (document 02, order 12), as a list of ASCII codes: a line for each call of a run, then the listing that `lanes` writes, with
+-- the counts added up.
 use Prim.Native.Nat.{ℕ, zero, suc, _+_}
 use mathlib.Core.Bool.{cond}
 use mathlib.Core.List.{List, [], _++_}

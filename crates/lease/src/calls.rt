@@ -1,4 +1,5 @@
-// All that the program `lease` writes: it takes a list up at a place under a limit, and again after each pause at the place reported, until it ends or is refused.
+// All that the program `lease` writes: it takes a list up at a place under a limit, and again after each pause at the place reported, until it ends or is
+// refused.
 ghost use mathlib.Core.Path.{_≡_};
 ghost use Rattle.calculator_rules.specs.Definition.{start};
 ghost use Rattle.calculator_limits.specs.Outcome.{outcome-of};

@@ -1,5 +1,5 @@
--- What C is handed of the marker finder: a position, its two distances and the number of a refusal. The number is 0 where a position is given, and the others are
--- 0 where it is refused.
+-- What C is handed of the marker finder: a position, its two distances and the number of a refusal. The number is 0 where a position is given, and the others
+-- are 0 where it is refused.
 use Prim.Native.Nat.{ℕ}
 use Rattle.finder_windows.specs.Definition.{Answer, found, refused}
 use Rattle.link_station.specs.declared.position.PositionOrRefusal.{PositionOrRefusal}

@@ -12,15 +12,16 @@ use lane_float::F32;
 use lane_float::F64;
 use lane_integer::reinterpret::signed64;
 
-// The calculator's scalar. Kind 0 is an i32, 1 an i64, 2 an f32, 3 an f64, as in a recording, and any other stands for 0; of a kind of 32 bits the low bits count.
+// The calculator's scalar. Kind 0 is an i32, 1 an i64, 2 an f32, 3 an f64, as in a recording, and any other stands for 0; of a kind of 32 bits the low bits
+// count.
 #[repr(C)]
 pub struct KindAndBits {
     pub kind: u8,
     pub bits: u64,
 }
 
-// What a run leaves beside the registers: the scalar, the steps done, and how it stopped. Paused: the place to take up from. Refused: the number, 1 to 6, 17 or 19; else
-// 0. Neither: the list has ended. What says nothing is 0.
+// What a run leaves beside the registers: the scalar, the steps done, and how it stopped. Paused: the place to take up from. Refused: the number, 1 to 6, 17 or
+// 19; else 0. Neither: the list has ended. What says nothing is 0.
 #[repr(C)]
 pub struct RunAnswer {
     pub scalar: KindAndBits,

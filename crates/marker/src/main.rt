@@ -1,5 +1,5 @@
-// The program `marker` (document 02, order 5): finds the marker of its first argument, within the tolerance of its second and with frames of as many bits as its
-// third says, in the bytes of standard input.
+// The program `marker` (document 02, order 5): finds the marker of its first argument, within the tolerance of its second and with frames of as many bits as
+// its third says, in the bytes of standard input.
 ghost use Prim.Native.Nat.{ℕ};
 ghost use mathlib.Core.Path.{_≡_};
 ghost use mathlib.Core.Bool.{true};

@@ -1,5 +1,5 @@
-// A packed form by its number, on a half, as the crate `array_lanewise` has it for one lane: so that what holds of both halves of a vector is shown once for all
-// forms. The number is a constant wherever a form is asked for.
+// A packed form by its number, on a half, as the crate `array_lanewise` has it for one lane: so that what holds of both halves of a vector is shown once for
+// all forms. The number is a constant wherever a form is asked for.
 ghost use mathlib.Core.Path.{_≡_};
 ghost use Rattle.packed_choose.specs.Choose.{half-unary-of, half-binary-of};
 use packed_compare::*;

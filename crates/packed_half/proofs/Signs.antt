@@ -3,7 +3,8 @@ use mathlib.Core.Path.{_≡_, refl, sym, ap, _∙_}
 use mathlib.Core.Bool.{Bool, true, false, cond}
 use mathlib.Core.List.{List, [], _∷_, map}
 use Prim.Native.Nat.{ℕ, zero, suc, _+_, _*_, _/_, _%_, _^_, _<_, _≤_}
-use native.Mathlib.Nat.{add-comm, pow-suc, mul-assoc, mul-suc, add-sub-cancel-left, div-eq-of-lt, le-div-iff-mul-le, one-mul, mod-lt, mod-eq-of-lt, lt-of-lt-of-le}
+use native.Mathlib.Nat.{add-comm, pow-suc, mul-assoc, mul-suc, add-sub-cancel-left, div-eq-of-lt, le-div-iff-mul-le, one-mul, mod-lt, mod-eq-of-lt}
+use native.Mathlib.Nat.{lt-of-lt-of-le}
 use native.Mathlib.Omega.{arith}
 use borrow.Author.Tests.{lt-ltb, ltb-true, ltb-false}
 use lib.Dec.{ltb, lit<}

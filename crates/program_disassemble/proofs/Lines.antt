@@ -31,7 +31,8 @@ unfolding numbered codes
 numbered-length k s = simp (length-append, length-replicate) (omega (arith, shown-length s, decimal-length k))
 
 -- a line that is made in a room of 256 bytes
-module _ {zeros l1 l2 l3 : List ℕ} {n gap m end : ℕ} (k : ℕ) (s : List ℕ) (z : length zeros ≡ 256) (w1 : Wrote zeros 0 (shown s) l1 n) (g : gap ≡ 64 - n) (w2 : Wrote l1 n (take gap (replicate 64 32)) l2 m) (w3 : Wrote l2 m (codes " # " ++ (decimal k ++ codes "\n")) l3 end) where
+module _ {zeros l1 l2 l3 : List ℕ} {n gap m end : ℕ} (k : ℕ) (s : List ℕ) (z : length zeros ≡ 256) (w1 : Wrote zeros 0 (shown s) l1 n) (g : gap ≡ 64 - n)
+    (w2 : Wrote l1 n (take gap (replicate 64 32)) l2 m) (w3 : Wrote l2 m (codes " # " ++ (decimal k ++ codes "\n")) l3 end) where
   shown-long : n ≡ length (shown s)
   shown-long = filled (omega (arith, shown-length s)) z w1 .count
 

@@ -14,7 +14,8 @@ use Rattle.program_words.specs.Cut.{blank, solid, before, skip, word, after, sa
 use Rattle.program_words.specs.Stops.{Scanned}
 use Rattle.program_names.specs.Names as names
 use Rattle.program_fields.specs.Fields.{byte, mark}
-use Rattle.program_line.specs.Line.{State, going, wrong, Line, empty, step, refused, apart, end-line, take-field, take-fields, take-mark, take-packed, blank-step, named, stated}
+use Rattle.program_line.specs.Line.{State, going, wrong, Line, empty, step, refused, apart, end-line, take-field, take-fields, take-mark, take-packed}
+use Rattle.program_line.specs.Line.{blank-step, named, stated}
 use Rattle.program_line.specs.Reads.{ReadAs}
 use Rattle.program_line.specs.declared.Read.{Read}
 

@@ -6,8 +6,10 @@ use Prim.Native.Nat.{ℕ, zero, suc, _-_, _*_, _/_}
 use lib.Dec.{eqb}
 use lib.ListN.{length, take, drop, length-set}
 use Rattle.standard.specs.Refusal.{given, refused}
-use Rattle.standard.specs.Instruction.{Instruction, none, memory, const, shuffled, vector₁, vector₂, vector₃, shifted, tested, splatted, extracted, replaced, instruction}
-use Rattle.calculator_rules.specs.Definition.{Machine, stopped, nothing-done, counting, after, operation, profile, refusal, effect, step, steps, reset, taken-up, list-refusal, run}
+use Rattle.standard.specs.Instruction.{Instruction, none, memory, const, shuffled, vector₁, vector₂, vector₃, shifted, tested, splatted, extracted, replaced}
+use Rattle.standard.specs.Instruction.{instruction}
+use Rattle.calculator_rules.specs.Definition.{Machine, stopped, nothing-done, counting, after, operation, profile, refusal, effect, step, steps, reset}
+use Rattle.calculator_rules.specs.Definition.{taken-up, list-refusal, run}
 
 effect-kept : (i : Instruction) (place : ℕ) (m : Machine) (s : List ℕ) → length (effect i place m s .registers) ≡ length (m .registers)
 unfolding effect

@@ -42,7 +42,8 @@ module _ (m t L from count : ℕ) (X window : List ℕ) (s : Scan) (block : List
       let all = h .all in
       let places : 8 * from + 8 * s .before ≡ 8 * (from + s .before) = omega arith in
       ap (λ (k : ℕ). lines (shift (8 * from) (all-from (bits X) (marker-bits m) t L k (place s)))) count-is
-      ∙ ap (λ (l : _). lines (shift (8 * from) l)) (over (marker-bits m) t L X (take (s .filled) window) (s .before) (s .from) (omega arith) (h .tail) n (s .from))
+      ∙ ap (λ (l : _). lines (shift (8 * from) l)) (over (marker-bits m) t L X (take (s .filled) window) (s .before) (s .from) (omega arith) (h .tail) n
+      (s .from))
       ∙ ap lines (shift-shift (8 * from) (8 * s .before) _)
       ∙ ap (λ (k : ℕ). lines (shift k (all-from (bits (take (s .filled) window)) (marker-bits m) t L n (s .from)))) places
 

@@ -58,7 +58,8 @@ module _ (m t L from count : ℕ) where
       all = omega arith
 
       start : (b : Bool) → leb p (8 * count) ≡ b
-          → all-from (bits X) (marker-bits m) t L (min q (8 * count) - p) (0 + min p (8 * count)) ≡ all-from (bits X) (marker-bits m) t L (min q (8 * count) - p) p
+          → all-from (bits X) (marker-bits m) t L (min q (8 * count) - p) (0 + min p (8 * count))
+          ≡ all-from (bits X) (marker-bits m) t L (min q (8 * count) - p) p
       start true e =
           let inside = leb-true p (8 * count) e in
           let here : 0 + min p (8 * count) ≡ p = omega arith in
@@ -97,7 +98,8 @@ module _ (m t L from count : ℕ) where
         ap (λ (l : List ℕ). l ++ take (r .used) left) (earlier .1)
             ∙ ap (λ (l : List ℕ). said Y (place z) ++ l) there
             ∙ sym (ap (λ (l : List Meeting). lines (shift (8 * from) l)) (on Y (place z) (place (r .scan)) (lined .forward))
-            ∙ ap lines (shift-append (8 * from) (before Y (place z)) (all-from (bits Y) (marker-bits m) t L (min (place (r .scan)) (8 * count) - place z) (place z)))
+            ∙ ap lines (shift-append (8 * from) (before Y (place z)) (all-from (bits Y) (marker-bits m) t L (min (place (r .scan)) (8 * count) - place z)
+            (place z)))
             ∙ lines-append (shift (8 * from) (before Y (place z))) new),
       )
 

@@ -25,7 +25,8 @@ pub record Digits (n N : ℕ) : Type 0 where
   pub below : N < 10 ^ n
   pub above : 1 < n → 10 ^ (n - 1) ≤ N
 
--- The text begins as the line of position N does, but for the position's last digit; the word has that digit and what follows it, "0 distan" and what it counts.
+-- The text begins as the line of position N does, but for the position's last digit; the word has that digit and what follows it, "0 distan" and what it
+-- counts.
 pub record Ready (text : List ℕ) (n w N : ℕ) : Type 0 where
   pub long : 48 ≤ length text
   pub count : Digits n N
@@ -64,7 +65,8 @@ abbrev pub Sought : List ℕ → List ℕ → ℕ → ℕ → ℕ → ℕ → An
 Sought s m t L at end (Answer.Found p d e) = all-from s m t L (p + 1 - at) at ≡ met p d e ∷ []
 Sought s m t L at end (Answer.Refused n) = all-from s m t L (end - at) at ≡ []
 
--- The lines of the meetings from a position up to another were put into a block, and nothing else was changed. Short of the end, the block has no room for what 256 positions may take.
+-- The lines of the meetings from a position up to another were put into a block, and nothing else was changed. Short of the end, the block has no room for what
+-- 256 positions may take.
 pub record Put-to (block bs : List ℕ) (from end m t L base : ℕ) (left : List ℕ) (used at : ℕ) : Type 0 where
   pub forward : from ≤ at
   pub inside : at ≤ end

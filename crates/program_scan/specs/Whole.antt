@@ -11,8 +11,8 @@ use Rattle.capture_history.specs.State.{place, Stands}
 use Rattle.program_scan.specs.Lines.{lines}
 use Rattle.program_scan.specs.declared.Put.{Put}
 
--- What is met in the bytes X from a position on and before another, and begins in their first `count` bytes, at its places in a capture of which `from` bytes lie
--- before X.
+-- What is met in the bytes X from a position on and before another, and begins in their first `count` bytes, at its places in a capture of which `from` bytes
+-- lie before X.
 abbrev pub met-in : ℕ → ℕ → ℕ → ℕ → ℕ → List ℕ → ℕ → ℕ → List Meeting
 met-in m t L from count X p q = shift (8 * from) (all-from (bits X) (marker-bits m) t L (min q (8 * count) - p) p)
 

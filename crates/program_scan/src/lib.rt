@@ -531,8 +531,8 @@ fn put_to(used: usize, done: bool, scan: Scan, from: usize) -> Put
     }
 }
 
-// Puts the lines of the next meetings of what has come into a block, from its start on: those that begin in a segment's `count` bytes, counted from the start of
-// the capture whose first `from` bytes lie before the segment.
+// Puts the lines of the next meetings of what has come into a block, from its start on: those that begin in a segment's `count` bytes, counted from the start
+// of the capture whose first `from` bytes lie before the segment.
 pub fn put_lines<'a>(
     block: &mut [u8],
     window: &'a [u8],

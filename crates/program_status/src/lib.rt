@@ -1,5 +1,5 @@
-// The status of a program. A program of this language has none of its own, so it writes a digit to a descriptor that `./program` gives it. One that has not answered
-// writes none.
+// The status of a program. A program of this language has none of its own, so it writes a digit to a descriptor that `./program` gives it. One that has not
+// answered writes none.
 ghost use mathlib.Core.Path.{_≡_};
 ghost use mathlib.Core.Bool.{true, cond};
 ghost use Rattle.program_digits.specs.Codes.{codes};

@@ -89,7 +89,8 @@ module _ (q : ℕ → Bool) (plainly : (c : ℕ) → odd c ≡ false → q c ≡
   free-decimal n = free-digits 10 (places 19 n) n (omega arith) (omega arith)
 
 -- and so is a line, where a space, an `r` and the words are
-module _ (q : ℕ → Bool) (plainly : (c : ℕ) → odd c ≡ false → q c ≡ false) (space : q 32 ≡ false) (r : q 114 ≡ false) (word-packed : free q (codes " packed") ≡ true) (word-step : free q (codes "step") ≡ true) where
+module _ (q : ℕ → Bool) (plainly : (c : ℕ) → odd c ≡ false → q c ≡ false) (space : q 32 ≡ false) (r : q 114 ≡ false)
+    (word-packed : free q (codes " packed") ≡ true) (word-step : free q (codes "step") ≡ true) where
   free-field : (f : Field) (p b : ℕ) → free q (field f p b) ≡ true
   unfolding field codes
   free-field register p b = rw (space, r) (free-decimal q plainly b)

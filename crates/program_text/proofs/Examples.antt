@@ -24,7 +24,8 @@ unfolding instruction table xor codes line statement onward before stated named 
 line-read = refl
 
 line-written : shown xor ≡ codes "v128.xor r3 r1 r2"
-unfolding instruction table xor codes shown plain name names of-form fields field mark decimal digits places line statement onward before stated named number place form take-form take-fields take-field find take-packed
+unfolding instruction table xor codes shown plain name names of-form fields field mark decimal digits places line statement onward before stated named number
+    place form take-form take-fields take-field find take-packed
 line-written = refl
 
 register-16 : line (codes "v128.not r16 r1") ≡ refused 2

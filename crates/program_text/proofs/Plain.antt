@@ -21,7 +21,8 @@ use Rattle.program_names.specs.Names as names
 use Rattle.program_names.proofs.Table.{name-free, number-of-name, name-not-step, name-below, both-left, both-right}
 use Rattle.program_fields.specs.Fields.{Field, register, lane, mark as a-mark, byte, found, find}
 use Rattle.program_forms.specs.Forms.{Form, form}
-use Rattle.program_line.specs.Line.{Line, step, State, going, apart, take-field, take-fields, take-form, take-mark, take-packed, end-line, of-operation, blank-step, named, stated, line}
+use Rattle.program_line.specs.Line.{Line, step, State, going, apart, take-field, take-fields, take-form, take-mark, take-packed, end-line, of-operation}
+use Rattle.program_line.specs.Line.{blank-step, named, stated, line}
 use Rattle.program_step.specs.Shown.{field, fields, mark, of-form, plain, whole, says, shown}
 use Rattle.program_text.specs.Used.{copied, marked, fields-of, used}
 use Rattle.program_text.proofs.Back.{below, at, parts, free-less, free-decimal, free-plain, statement-all, byte-taken, ended, tick, Bytes}

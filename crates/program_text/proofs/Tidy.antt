@@ -14,7 +14,8 @@ use Rattle.program_words.specs.Cut.{blank, solid, before, onward, skip, word, a
 use Rattle.program_names.specs.Names as names
 use Rattle.program_fields.specs.Fields.{Field, register, lane, mark, byte, Found, found, nothing, between, as-register, as-byte, find}
 use Rattle.program_forms.specs.Forms.{Form, form}
-use Rattle.program_line.specs.Line.{Line, empty, step, refused, State, going, wrong, field-expected, store, take-field, take-fields, take-form, apart, take-mark, take-packed, nothing-more, end-line, of-operation, blank-step, named, stated, line}
+use Rattle.program_line.specs.Line.{Line, empty, step, refused, State, going, wrong, field-expected, store, take-field, take-fields, take-form, apart}
+use Rattle.program_line.specs.Line.{take-mark, take-packed, nothing-more, end-line, of-operation, blank-step, named, stated, line}
 use Rattle.program_text.specs.Words.{spaced, tidy}
 
 -- by whether a character is a blank

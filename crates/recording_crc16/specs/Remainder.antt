@@ -1,5 +1,5 @@
--- The check of a field recording (document 02, order 8): "the CRC-16 with polynomial x^16 + x^12 + x^5 + 1, start all ones, top bit first, no final xor". It is the
--- remainder of the division of polynomials over two elements, bit by bit. A register is a number below 2^16, whose bit k is the coefficient of x^k; a
+-- The check of a field recording (document 02, order 8): "the CRC-16 with polynomial x^16 + x^12 + x^5 + 1, start all ones, top bit first, no final xor". It is
+-- the remainder of the division of polynomials over two elements, bit by bit. A register is a number below 2^16, whose bit k is the coefficient of x^k; a
 -- message is the list of its bits in the order in which they come.
 use mathlib.Core.Bool.{Bool, true, false}
 use mathlib.Core.List.{List, [], _∷_, _++_}

@@ -99,7 +99,8 @@ narrow-word b =
 
 -- ---- a trace
 
-module _ (lo hi n k b : ℕ) (m s : ℕ) (below : lo < 2 ^ 64) (is-ending-word : digits 8 8 m ≡ n ∷ k ∷ replicate 6 0) (is-scalar : digits 8 8 s ≡ scalar-bytes k b) where
+module _ (lo hi n k b : ℕ) (m s : ℕ) (below : lo < 2 ^ 64) (is-ending-word : digits 8 8 m ≡ n ∷ k ∷ replicate 6 0)
+    (is-scalar : digits 8 8 s ≡ scalar-bytes k b) where
   pub trace-words : trace (lo + 2 ^ 64 * hi) n k b ≡ digits 8 8 lo ++ (digits 8 8 hi ++ (digits 8 8 m ++ digits 8 8 s))
   unfolding trace
   trace-words =

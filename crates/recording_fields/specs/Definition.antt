@@ -24,8 +24,8 @@ same [] (y ∷ ys) = false
 same (x ∷ xs) [] = false
 same (x ∷ xs) (y ∷ ys) = eqb x y && same xs ys
 
--- What a replay answers: ""agrees" exactly when every record is what the definition gives, else the first record that isn't, counted from 1"; or the number of a
--- refusal.
+-- What a replay answers: ""agrees" exactly when every record is what the definition gives, else the first record that isn't, counted from 1"; or the number of
+-- a refusal.
 pub data Answer : Type 0 where
   agrees : Answer
   differs : ℕ → Answer

@@ -7,7 +7,8 @@ use native.Mathlib.Omega.{arith}
 use borrow.Author.Tests.{leb-true, eqb-true}
 use lib.Dec.{leb, eqb}
 use lib.ListN.{length, getD}
-use Rattle.recording_layout.specs.Definition.{part, all-zero, each-below, record-at-laid, unless, whole-blocks, blocks, block, right-block, count, count-laid, block-laid, laid-block, refusal, records, recording, refused, judged}
+use Rattle.recording_layout.specs.Definition.{part, all-zero, each-below, record-at-laid, unless, whole-blocks, blocks, block, right-block, count}
+use Rattle.recording_layout.specs.Definition.{count-laid, block-laid, laid-block, refusal, records, recording, refused, judged}
 use Rattle.recording_layout.proofs.Below.{both, at}
 
 -- a count that is laid

@@ -56,7 +56,8 @@ count-laid n k c = leb (7 * k + c) 256 && cond (eqb (k + 1) n) (leb 1 c && leb c
 abbrev pub record-at-laid : ℕ → ℕ → List ℕ → ℕ → Bool
 record-at-laid n k b i = record-laid (eqb (k + 1) n && eqb (i + 1) (count b)) (record-in b i)
 
--- Block k of n: "0..1 block number from 0; 2 record count; 3 zero; records of 64 bytes from byte 4, at most seven; zeros to byte 509". "Block number .. little-endian."
+-- Block k of n: "0..1 block number from 0; 2 record count; 3 zero; records of 64 bytes from byte 4, at most seven; zeros to byte 509". "Block number ..
+-- little-endian."
 unfoldable pub block-laid : ℕ → ℕ → List ℕ → Bool
 block-laid n k b =
     eqb (getD b 0 0 + 256 * getD b 1 0) k && count-laid n k (count b) && eqb (getD b 3 0) 0

@@ -15,7 +15,8 @@ use lib.Seq.{take-at, drop-at, drop-drop, set-at, append-snoc}
 use Rattle.recording_crc16.specs.Remainder.{_⊕_}
 use Rattle.recording_crc16.specs.Block.{right}
 use Rattle.recording_layout.specs.Definition.{whole-blocks, blocks, block}
-use Rattle.recording_mending_rules.specs.Definition.{flipped, bit-from, Mended, kept, put-back, beyond, mended, block-of, bit-of, is-mended, written, blocks-from, bits-from, Mending, refused, written-over, done, mending}
+use Rattle.recording_mending_rules.specs.Definition.{flipped, bit-from, Mended, kept, put-back, beyond, mended, block-of, bit-of, is-mended, written}
+use Rattle.recording_mending_rules.specs.Definition.{blocks-from, bits-from, Mending, refused, written-over, done, mending}
 use Rattle.recording_mending_rules.specs.Place.{number-of}
 
 -- ---- what the code's number says of a block

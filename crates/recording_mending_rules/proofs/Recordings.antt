@@ -1,5 +1,5 @@
--- What order 10 asks to be proved, of a whole file: "a block sent with a right check and one bit flipped, anywhere in the 4,096, comes out as sent if the tool reaches it", and "one with two
--- flipped is never altered". Assumes nothing.
+-- What order 10 asks to be proved, of a whole file: "a block sent with a right check and one bit flipped, anywhere in the 4,096, comes out as sent if the tool
+-- reaches it", and "one with two flipped is never altered". Assumes nothing.
 use mathlib.Core.Path.{_≡_, refl, ap, _∙_, subst}
 use mathlib.Core.Bool.{Bool, true, false, cond}
 use mathlib.Core.List.{List}
@@ -13,7 +13,8 @@ use Rattle.recording_crc16.specs.Remainder.{check}
 use Rattle.recording_crc16.specs.Block.{right}
 use Rattle.recording_layout.specs.Definition.{whole-blocks, blocks, block}
 use Rattle.recording_layout.proofs.Below.{both}
-use Rattle.recording_mending_rules.specs.Definition.{flipped, Mended, kept, put-back, beyond, mended, block-of, bit-of, is-mended, written, Mending, refused, done, mending}
+use Rattle.recording_mending_rules.specs.Definition.{flipped, Mended, kept, put-back, beyond, mended, block-of, bit-of, is-mended, written, Mending}
+use Rattle.recording_mending_rules.specs.Definition.{refused, done, mending}
 use Rattle.recording_mending_rules.proofs.Blocks.{Block, flipped-twice, still-block, one-bit, two-bits}
 use Rattle.recording_mending_rules.proofs.Files.{bit-out, block-at, bit-at, behind, written-le, goes-on, stops, never-past}
 

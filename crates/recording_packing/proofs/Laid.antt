@@ -11,7 +11,8 @@ use borrow.Author.Tests.{eq-eqb, ne-eqb, le-leb}
 use lib.Dec.{leb, eqb}
 use lib.ListN.{length, getD, take, drop, length-take, length-drop}
 use lib.Seq.{drop-drop}
-use Rattle.recording_layout.specs.Definition.{whole-blocks, blocks, block, right-block, all-zero, part, record-laid, record-in, record-at-laid, count, count-laid, block-laid, laid-block, each-below, refusal, records, recording, judged, record-at}
+use Rattle.recording_layout.specs.Definition.{whole-blocks, blocks, block, right-block, all-zero, part, record-laid, record-in, record-at-laid, count}
+use Rattle.recording_layout.specs.Definition.{count-laid, block-laid, laid-block, each-below, refusal, records, recording, judged, record-at}
 use Rattle.recording_layout.proofs.Below.{all}
 use Rattle.recording_packing.specs.Definition.{packed-block, blocks-for, packed}
 use Rattle.recording_packing.proofs.Blocks.{length-packed}

@@ -22,7 +22,8 @@ use Rattle.recording_packing.specs.Definition.{blocks-for, packed, fits, standi
 use Rattle.recording_packing.proofs.Blocks.{length-packed, fitting}
 use Rattle.recording_packing.proofs.Laid.{nth, Lawful, judged-packed, found}
 use Rattle.recording_rules.specs.Definition as definition
-use Rattle.recording_rules.specs.Definition.{written, left-by, trace-of, going-on, next, replay-from, replay, further, records-from, records-of, Recorded, wrote, empty, short, rejected}
+use Rattle.recording_rules.specs.Definition.{written, left-by, trace-of, going-on, next, replay-from, replay, further, records-from, records-of, Recorded}
+use Rattle.recording_rules.specs.Definition.{wrote, empty, short, rejected}
 
 -- ---- a record by the rules of the layout
 

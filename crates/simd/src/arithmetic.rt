@@ -1,6 +1,7 @@
 // Lane by lane integer arithmetic.
 ghost use mathlib.Core.Path.{_≡_};
-ghost use Rattle.standard.specs.Integer.{iadd, isub, imul, ineg, iabs, ipopcnt, imin-u, imin-s, imax-u, imax-s, iadd-sat-u, iadd-sat-s, isub-sat-u, isub-sat-s, iavgr-u, iq15mulrsat-s};
+ghost use Rattle.standard.specs.Integer.{iadd, isub, imul, ineg, iabs, ipopcnt, imin-u, imin-s, imax-u, imax-s, iadd-sat-u, iadd-sat-s, isub-sat-u, isub-sat-s};
+ghost use Rattle.standard.specs.Integer.{iavgr-u, iq15mulrsat-s};
 ghost use Rattle.standard.specs.Lanes.{unary, binary};
 ghost use Rattle.simd.specs.Number.{number};
 use crate::V128;

@@ -1,5 +1,5 @@
-// WebAssembly's 128-bit vectors: `V128` and the operations on vectors of wasmi_core's simd.rs, under their names, in files by family. Here: the vector, its lanes
-// as arrays and back, and the loops over lanes.
+// WebAssembly's 128-bit vectors: `V128` and the operations on vectors of wasmi_core's simd.rs, under their names, in files by family. Here: the vector, its
+// lanes as arrays and back, and the loops over lanes.
 pub mod answer;
 pub mod arithmetic;
 pub mod bitwise;

@@ -3,7 +3,8 @@
 use mathlib.Core.Path.{_≡_, refl, sym, ap, ap₂, _∙_, subst, subst⁻¹}
 use mathlib.Core.List.{List, [], _∷_, _++_}
 use Prim.Native.Nat.{ℕ, zero, suc, _+_, _*_, _/_, _%_, _^_, _<_}
-use native.Mathlib.Nat.{zero-add, add-comm, add-assoc, suc-add, mul-zero, mul-suc, one-mul, mul-add, mul-assoc, mul-comm, mod-lt, mod-eq-of-lt, mod-add-div, div-eq-of-lt, add-mul-div-left, add-mul-mod-self-left}
+use native.Mathlib.Nat.{zero-add, add-comm, add-assoc, suc-add, mul-zero, mul-suc, one-mul, mul-add, mul-assoc, mul-comm, mod-lt, mod-eq-of-lt, mod-add-div}
+use native.Mathlib.Nat.{div-eq-of-lt, add-mul-div-left, add-mul-mod-self-left}
 use lib.Arith.{lt-one, digits-lt}
 use lib.Pow.{pow-pos, pow-add, shr-lt}
 use lib.ListN.{length}

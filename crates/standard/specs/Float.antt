@@ -63,8 +63,8 @@ fmul f a b = toBits f (Ieee.mul f (ofBits f a) (ofBits f b))
 abbrev pub fdiv : Format → ℕ → ℕ → ℕ
 fdiv f a b = toBits f (Ieee.div f (ofBits f a) (ofBits f b))
 
--- Whether a is below b, −0 counted below +0. Equal numbers have one pattern, but for the zeros (proved: `lane_float_theorems/proofs/OnePattern`): there the sign
--- of a decides.
+-- Whether a is below b, −0 counted below +0. Equal numbers have one pattern, but for the zeros (proved: `lane_float_theorems/proofs/OnePattern`): there the
+-- sign of a decides.
 abbrev pub under : Format → ℕ → ℕ → Bool
 under f a b = Ieee.lt (ofBits f a) (ofBits f b) || (Ieee.eq (ofBits f a) (ofBits f b) && leb (top f) a)
 

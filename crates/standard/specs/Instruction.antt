@@ -4,7 +4,9 @@ use mathlib.Core.List.{List, [], _∷_}
 use lib.ListN.{getD}
 use lib.Ieee.{binary32, binary64}
 use Rattle.standard.specs.Lanes.{lowHalf, highHalf, unary, binary, splat, extract, replace}
-use Rattle.standard.specs.Integer.{iadd, isub, imul, ineg, iabs, ipopcnt, imin-u, imin-s, imax-u, imax-s, iadd-sat-u, iadd-sat-s, isub-sat-u, isub-sat-s, iavgr-u, iq15mulrsat-s, ishl, ishr-u, ishr-s, ieq, ine, ilt-u, igt-u, ile-u, ige-u, ilt-s, igt-s, ile-s, ige-s, inot, iand, ior, ixor, iandnot, ibitselect, extend-u, extend-s, narrow-u, narrow-s}
+use Rattle.standard.specs.Integer.{iadd, isub, imul, ineg, iabs, ipopcnt, imin-u, imin-s, imax-u, imax-s, iadd-sat-u, iadd-sat-s, isub-sat-u, isub-sat-s}
+use Rattle.standard.specs.Integer.{iavgr-u, iq15mulrsat-s, ishl, ishr-u, ishr-s, ieq, ine, ilt-u, igt-u, ile-u, ige-u, ilt-s, igt-s, ile-s, ige-s, inot}
+use Rattle.standard.specs.Integer.{iand, ior, ixor, iandnot, ibitselect, extend-u, extend-s, narrow-u, narrow-s}
 use Rattle.standard.specs.Float.{feq, fne, flt, fgt, fle, fge, fneg, fabs, fpmin, fpmax, fadd, fsub, fmul, fdiv, fmin, fmax}
 use Rattle.standard.specs.Convert.{fceil, ffloor, ftrunc, fnearest, demote, promote, convert-u, convert-s, trunc-sat-u, trunc-sat-s}
 use Rattle.standard.specs.Vector.{extend, extmul, extadd-pairwise, dot, narrow, convert-low, convert-zero, swizzle, any-true, all-true, bitmask}

@@ -53,7 +53,8 @@ loop-less c = search needs
 -- a word in which nothing is near has no window in the buffer that is
 quiet : (c : tie.After-near Inv-loop μ-loop) → c .near .result ≡ false
     → let given = c .before .before .before .before .before .args in
-    (k : ℕ) → k < 32 → given .tolerance < distance (window (bits (given .buffer .now)) (8 * c .before .before .before .loop .at + k)) (marker-bits (given .marker))
+    (k : ℕ) → k < 32 → given .tolerance < distance (window (bits (given .buffer .now)) (8 * c .before .before .before .loop .at + k))
+    (marker-bits (given .marker))
 quiet c e k h =
     let given = c .before .before .before .before .before .args in
     let word = c .before .word-at in

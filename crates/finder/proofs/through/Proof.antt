@@ -12,7 +12,8 @@ use Rattle.finder.proofs.through.Tie as tie
 abbrev Inv-loop : tie.InvT-loop
 Inv-loop buffer from count marker tolerance frame at₀ left₀ at left =
     (8 * at + left ≡ 8 * from + count)
-    × (first-from (bits buffer) (marker-bits marker) tolerance frame count (8 * from) ≡ first-from (bits buffer) (marker-bits marker) tolerance frame left (8 * at))
+    × (first-from (bits buffer) (marker-bits marker) tolerance frame count (8 * from)
+    ≡ first-from (bits buffer) (marker-bits marker) tolerance frame left (8 * at))
 
 abbrev μ-loop : tie.MeasureT-loop
 μ-loop buffer from count marker tolerance frame at₀ left₀ at left = left

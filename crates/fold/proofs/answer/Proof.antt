@@ -32,7 +32,13 @@ fold-requires-2 c κs = search needs
 
 returns : tie.Need-returns
 unfolding text
-returns c = rw (← c .before .before .before .before .before .before .links-in .ensures .0, ← c .before .before .before .before .before .links-of .ensures, ← c .before .before .fold .ensures .0, ← c .before .before .fold .ensures .1 .0) (c .fold2 .ensures)
+returns c =
+    rw (
+      ← c .before .before .before .before .before .before .links-in .ensures .0,
+      ← c .before .before .before .before .before .links-of .ensures,
+      ← c .before .before .fold .ensures .0,
+      ← c .before .before .fold .ensures .1 .0,
+    ) (c .fold2 .ensures)
 
 pub answer-spec : {M : Type 1} → statement M
 answer-spec =

@@ -35,7 +35,8 @@ pick32-requires-2 c κs = search needs
 add-result : tie.Need-add-result
 add-result c = record {
   fits = lt-of-le-of-lt (le-of-eq (ap₂ _+_ (c .before .before .pick32 .ensures) (c .pick322 .ensures)))
-      (both-fit 2147483648 1065353216 4294967296 (lit< tt) (leb 2147483648 (c .before .before .before .before .before .before .args .bits)) (c .before .rises32 .result));
+      (both-fit 2147483648 1065353216 4294967296 (lit< tt) (leb 2147483648 (c .before .before .before .before .before .before .args .bits))
+      (c .before .rises32 .result));
 }
 
 returns-3 : tie.Need-returns-3

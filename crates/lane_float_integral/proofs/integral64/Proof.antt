@@ -35,7 +35,8 @@ pick64-requires-2 c κs = search needs
 add-result : tie.Need-add-result
 add-result c = record {
   fits = lt-of-le-of-lt (le-of-eq (ap₂ _+_ (c .before .before .pick64 .ensures) (c .pick642 .ensures)))
-      (both-fit 9223372036854775808 4607182418800017408 18446744073709551616 (lit< tt) (leb 9223372036854775808 (c .before .before .before .before .before .before .args .bits)) (c .before .rises64 .result));
+      (both-fit 9223372036854775808 4607182418800017408 18446744073709551616 (lit< tt)
+      (leb 9223372036854775808 (c .before .before .before .before .before .before .args .bits)) (c .before .rises64 .result));
 }
 
 returns-3 : tie.Need-returns-3

@@ -30,7 +30,8 @@ returns c =
     let a = c .before .before .before .before .args .a in
     let b = c .before .before .before .before .args .b in
     c .pick32 .ensures ∙ ap (λ (s : ℕ). cond (lt (ofBits binary32 b) (ofBits binary32 a)) b (bitOr a s)) (c .before .sign32 .ensures)
-    ∙ least binary32 a b (c .before .before .before .ordered32 .ensures) (c .before .before .before .before .fits .a .fits) (c .before .before .before .before .fits .b .fits) (c .before .before .if1 .taken)
+    ∙ least binary32 a b (c .before .before .before .ordered32 .ensures) (c .before .before .before .before .fits .a .fits)
+    (c .before .before .before .before .fits .b .fits) (c .before .before .if1 .taken)
 
 returns-2 : tie.Need-returns-2
 unfolding toBits

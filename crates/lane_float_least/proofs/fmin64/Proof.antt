@@ -30,7 +30,8 @@ returns c =
     let a = c .before .before .before .before .args .a in
     let b = c .before .before .before .before .args .b in
     c .pick64 .ensures ∙ ap (λ (s : ℕ). cond (lt (ofBits binary64 b) (ofBits binary64 a)) b (bitOr a s)) (c .before .sign64 .ensures)
-    ∙ least binary64 a b (c .before .before .before .ordered64 .ensures) (c .before .before .before .before .fits .a .fits) (c .before .before .before .before .fits .b .fits) (c .before .before .if1 .taken)
+    ∙ least binary64 a b (c .before .before .before .ordered64 .ensures) (c .before .before .before .before .fits .a .fits)
+    (c .before .before .before .before .fits .b .fits) (c .before .before .if1 .taken)
 
 returns-2 : tie.Need-returns-2
 unfolding toBits

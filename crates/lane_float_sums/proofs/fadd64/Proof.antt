@@ -24,7 +24,8 @@ returns c = search needs
 returns-2 : tie.Need-returns-2
 unfolding toBits
 returns-2 c =
-    absorbed binary64 (c .before .before .args .a) (c .before .before .args .b) (c .before .ordered64 .ensures) (add binary64) (add-absorbs binary64) (c .if1 .left)
+    absorbed binary64 (c .before .before .args .a) (c .before .before .args .b) (c .before .ordered64 .ensures) (add binary64) (add-absorbs binary64)
+    (c .if1 .left)
 
 pub fadd64-spec : {M : Type 1} → statement M
 fadd64-spec = tie.close (tie.spec ordered64-requires float-from-bits-pattern64 float-from-bits-pattern64-2 pattern64-requires returns returns-2)

@@ -24,7 +24,8 @@ returns c = search needs
 returns-2 : tie.Need-returns-2
 unfolding toBits
 returns-2 c =
-    absorbed binary32 (c .before .before .args .a) (c .before .before .args .b) (c .before .ordered32 .ensures) (sub binary32) (sub-absorbs binary32) (c .if1 .left)
+    absorbed binary32 (c .before .before .args .a) (c .before .before .args .b) (c .before .ordered32 .ensures) (sub binary32) (sub-absorbs binary32)
+    (c .if1 .left)
 
 pub fsub32-spec : {M : Type 1} → statement M
 fsub32-spec = tie.close (tie.spec ordered32-requires float-from-bits-pattern32 float-from-bits-pattern32-2 pattern32-requires returns returns-2)

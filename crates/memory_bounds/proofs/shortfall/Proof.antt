@@ -27,7 +27,15 @@ capped-requires-2 c κs = search needs
 
 returns : tie.Need-returns
 returns c =
-    rw (c .capped2 .ensures, c .before .less5 .ensures, c .before .before .capped .ensures, c .before .before .before .less4 .ensures, c .before .before .before .before .less3 .ensures, c .before .before .before .before .before .less2 .ensures, c .before .before .before .before .before .before .less .ensures)
+    rw (
+      c .capped2 .ensures,
+      c .before .less5 .ensures,
+      c .before .before .capped .ensures,
+      c .before .before .before .less4 .ensures,
+      c .before .before .before .before .less3 .ensures,
+      c .before .before .before .before .before .less2 .ensures,
+      c .before .before .before .before .before .before .less .ensures,
+    )
     (capped-off _ _ _ _ _)
 
 pub shortfall-spec : {M : Type 1} → statement M

@@ -32,7 +32,10 @@ same-length c = search needs
 
 returns : tie.Need-returns
 unfolding complaint codes
-returns c = then (c .before .before .before .before .before .before .before .before .before .before .before .before .before .before .before .before .put-number .ensures) (then (c .before .before .before .before .before .before .before .before .before .before .before .put .ensures) (then (c .before .before .before .before .before .before .before .put-reason .ensures) (c .before .before .put2 .ensures)))
+returns c =
+    then (c .before .before .before .before .before .before .before .before .before .before .before .before .before .before .before
+    .before .put-number .ensures) (then (c .before .before .before .before .before .before .before .before .before .before .before .put .ensures)
+    (then (c .before .before .before .before .before .before .before .put-reason .ensures) (c .before .before .put2 .ensures)))
 
 pub put-complaint-spec : {M : Type 1} → statement M
 put-complaint-spec =

@@ -29,7 +29,10 @@ same-length c = search needs
 
 returns : tie.Need-returns
 unfolding listing codes
-returns c = then (c .before .before .before .before .before .before .before .before .before .before .before .before .before .before .before .put-count .ensures) (then (c .before .before .before .before .before .before .before .before .before .before .before .put-registers .ensures) (then (c .before .before .before .before .before .before .before .put-scalar .ensures) (c .before .before .put-count2 .ensures)))
+returns c =
+    then (c .before .before .before .before .before .before .before .before .before .before .before .before .before .before .before .put-count .ensures)
+    (then (c .before .before .before .before .before .before .before .before .before .before .before .put-registers .ensures)
+    (then (c .before .before .before .before .before .before .before .put-scalar .ensures) (c .before .before .put-count2 .ensures)))
 
 pub put-listing-spec : {M : Type 1} → statement M
 put-listing-spec =

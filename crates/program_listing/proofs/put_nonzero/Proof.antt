@@ -36,8 +36,11 @@ same-length c = search needs
 returns : tie.Need-returns
 unfolding nonzero-line codes
 returns c =
-    then (c .before .before .before .before .before .before .before .before .before .before .before .before .before .before .before .before .before .before .before .before .put .ensures)
-    (then (c .before .before .before .before .before .before .before .before .before .before .before .before .before .before .before .before .put-two-decimals .ensures) (then (c .before .before .before .before .before .before .before .before .before .before .before .put2 .ensures) (then (c .before .before .before .before .before .before .before .put-vector .ensures) (c .before .before .put-count .ensures))))
+    then (c .before .before .before .before .before .before .before .before .before .before .before .before .before .before .before .before .before .before
+    .before .before .put .ensures)
+    (then (c .before .before .before .before .before .before .before .before .before .before .before .before .before .before .before
+    .before .put-two-decimals .ensures) (then (c .before .before .before .before .before .before .before .before .before .before .before .put2 .ensures)
+    (then (c .before .before .before .before .before .before .before .put-vector .ensures) (c .before .before .put-count .ensures))))
 
 pub put-nonzero-spec : {M : Type 1} → statement M
 put-nonzero-spec =

@@ -34,7 +34,9 @@ same-length c = search needs
 
 returns-2 : tie.Need-returns-2
 unfolding codes
-returns-2 c = simp (eq-eqb (c .before .before .before .before .before .before .before .before .before .before .before .before .before .before .before .before .before .args .refused) 0 (omega arith)) (search (needs, then))
+returns-2 c =
+    simp (eq-eqb (c .before .before .before .before .before .before .before .before .before .before .before .before .before .before .before .before
+    .before .args .refused) 0 (omega arith)) (search (needs, then))
 
 pub put-indices-spec : {M : Type 1} → statement M
 put-indices-spec =

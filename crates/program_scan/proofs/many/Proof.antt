@@ -70,16 +70,25 @@ same-length-2 c = search needs
 
 returns : tie.Need-returns
 returns c =
-    let given = c .before .before .before .before .before .before .before .before .before .before .before .before .before .before .before .before .before .before .before .before .args in
-    let pre = c .before .before .before .before .before .before .before .before .before .before .before .before .before .before .before .before .before .before .before .before .pre .1 .1 .1 in
-    let here = c .before .before .before .before .before .before .before .before .before .before .before .before .before .before .before .distances .ensures .0 (omega (arith, pre .1 .0)) (pre .0 .0, below-none _) in
+    let given =
+    c .before .before .before .before .before .before .before .before .before .before .before .before .before .before .before .before .before .before .before
+    .before .args in
+    let pre =
+    c .before .before .before .before .before .before .before .before .before .before .before .before .before .before .before .before .before .before .before
+    .before .pre .1 .1 .1 in
+    let here =
+    c .before .before .before .before .before .before .before .before .before .before .before .before .before .before .before .distances .ensures .0
+    (omega (arith, pre .1 .0)) (pre .0 .0, below-none _) in
     let later = c .before .before .before .before .before .before .before .before .before .before .before .before .before .distances2 .ensures .0
     (omega (arith, pre .1 .0)) (pre .0 .1, below-none _) in
     let judge = c .before .before .before .before .before .before .before .before .before .judge in
     let put = c .before .before .before .before .put-many in (
       put .ensures .0,
       (
-        λ k e. said-as (meetings-are (given .buffer .now) (c .before .before .before .before .before .before .before .before .before .before .before .before .before .before .before .distances .last .1 .1 .1 .0) (c .before .before .before .before .before .before .before .before .before .before .before .before .before .distances2 .last .1 .1 .1 .0) (judge .last .1 .0) (given .at) (given .marker) (given .tolerance) (given .frame) (pre .1 .1 .1) here later (judge .ensures) k (given .number) e) (put .ensures .1 .0),
+        λ k e. said-as (meetings-are (given .buffer .now) (c .before .before .before .before .before .before .before .before .before .before .before .before
+            .before .before .before .distances .last .1 .1 .1 .0) (c .before .before .before .before .before .before .before .before .before .before .before
+            .before .before .distances2 .last .1 .1 .1 .0) (judge .last .1 .0) (given .at) (given .marker) (given .tolerance) (given .frame)
+            (pre .1 .1 .1) here later (judge .ensures) k (given .number) e) (put .ensures .1 .0),
         (put .ensures .1 .1, (here .0, judge .kept .1 .0 ∙ later .0)),
       ),
     )

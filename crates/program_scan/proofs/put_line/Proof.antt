@@ -60,8 +60,12 @@ same-length c = search needs
 
 returns : tie.Need-returns
 returns c =
-    let given = c .before .before .before .before .before .before .before .before .before .before .before .before .before .before .before .before .before .before .before .before .before .before .args in
-    let pre = c .before .before .before .before .before .before .before .before .before .before .before .before .before .before .before .before .before .before .before .before .before .before .pre in
+    let given =
+    c .before .before .before .before .before .before .before .before .before .before .before .before .before .before .before .before .before .before .before
+    .before .before .before .args in
+    let pre =
+    c .before .before .before .before .before .before .before .before .before .before .before .before .before .before .before .before .before .before .before
+    .before .before .before .pre in
     let few = pre .0 in
     let two = c .before .before .before .before .before .before .before .before .before .before .before .before .before .before .copy2 in
     let three = c .before .before .before .before .before .before .before .before .before .before .put-word in
@@ -69,7 +73,9 @@ returns c =
     let five = c .before .before .put-word3 in (
       line-put (given .block .now) (given .text .now) (two .last .0) (three .last .0) (four .last .0) (five .last .0) (given .pen .used)
           (given .pen .digits) (given .pen .tail) (given .code) few (pre .1 .0)
-          (pre .1 .1 .0) (two .ensures ∙ ap (λ (l : List ℕ). paste l (given .pen .used + given .pen .digits) (drop (given .pen .digits) (given .text .now)) 8) (c .before .before .before .before .before .before .before .before .before .before .before .before .before .before .before .before .before .before .copy .ensures)) (three .ensures)
+          (pre .1 .1 .0) (two .ensures ∙ ap (λ (l : List ℕ). paste l (given .pen .used + given .pen .digits) (drop (given .pen .digits) (given .text .now)) 8)
+          (c .before .before .before .before .before .before .before .before .before .before .before .before .before .before .before .before .before
+          .before .copy .ensures)) (three .ensures)
           (four .ensures) (five .ensures),
       omega arith,
     )

@@ -64,10 +64,12 @@ slice-aggregate-fill c =
     sym (length-take-le (given .scan .filled) (given .window .now) (omega (arith, known .2)))
 
 add-fill : tie.Need-add-fill
-add-fill c = let known = c .before .before .before .before .before .is-shut .ensures .1 (c .before .before .before .before .if1 .left) in record { fits = omega (arith, known .3) }
+add-fill c = let known =
+    c .before .before .before .before .before .is-shut .ensures .1 (c .before .before .before .before .if1 .left) in record { fits = omega (arith, known .3) }
 
 mul-fill : tie.Need-mul-fill
-mul-fill c = let known = c .before .before .before .before .before .is-shut .ensures .1 (c .before .before .before .before .if1 .left) in record { fits = omega (arith, known .3) }
+mul-fill c = let known =
+    c .before .before .before .before .before .is-shut .ensures .1 (c .before .before .before .before .if1 .left) in record { fits = omega (arith, known .3) }
 
 fill-requires : tie.Need-fill-requires
 fill-requires c κs =
@@ -87,7 +89,9 @@ same-length c = search needs
 returns-3 : tie.Need-returns-3
 returns-3 c =
     let given = c .before .before .before .before .before .before .before .before .before .before .before .before .before .args in
-    let known = c .before .before .before .before .before .before .before .before .before .before .is-shut .ensures .1 (c .before .before .before .before .before .before .before .before .before .if1 .left) in
+    let known =
+    c .before .before .before .before .before .before .before .before .before .before .is-shut .ensures .1
+    (c .before .before .before .before .before .before .before .before .before .if1 .left) in
     let fill = c .before .before .before .before .fill in
     let end = c .before .before .before .before .before .before .before .before .limit .ensures in
     let is = c .put-to3 .ensures in (
@@ -109,10 +113,13 @@ same-length-2 c = search needs
 returns-4 : tie.Need-returns-4
 returns-4 c =
     let given = c .before .before .before .before .before .before .before .before .before .before .before .before .before .args in
-    let known = c .before .before .before .before .before .before .before .before .before .before .is-shut .ensures .1 (c .before .before .before .before .before .before .before .before .before .if1 .left) in
+    let known =
+    c .before .before .before .before .before .before .before .before .before .before .is-shut .ensures .1
+    (c .before .before .before .before .before .before .before .before .before .if1 .left) in
     let fill = c .before .before .before .before .fill in
     let end = c .before .before .before .before .before .before .before .before .limit .ensures in
-    let short-of = less (fill .result .at) (c .before .before .before .before .before .before .before .before .limit .result) (fill .ensures .0 .1) (c .before .if3 .left) in
+    let short-of =
+    less (fill .result .at) (c .before .before .before .before .before .before .before .before .limit .result) (fill .ensures .0 .1) (c .before .if3 .left) in
     let is = c .put-to4 .ensures in (
       rw (ap (λ (z : Put). z .used) is) (fill .ensures .0 .2),
       λ X s small made few. subst

@@ -45,7 +45,8 @@ returns-2 c =
       λ made. absurd (omega (
         arith,
         head (bits (given .buffer .now)) (marker-bits (given .marker)) (given .tolerance) (given .frame)
-            (8 * length (given .buffer .now) - (given .frame + 31) - given .at) (given .at) (given .end) (omega arith) (omega arith) _ _ _ (heard told made) .low,
+            (8 * length (given .buffer .now) - (given .frame + 31) - given .at) (given .at) (given .end) (omega arith) (omega arith) _ _ _
+            (heard told made) .low,
       )),
     )
 
@@ -89,7 +90,8 @@ returns-6 c =
     let told = c .before .before .before .before in (
       (omega arith, omega arith, omega arith, omega arith),
       λ made. head (bits (given .buffer .now)) (marker-bits (given .marker)) (given .tolerance) (given .frame)
-          (8 * length (given .buffer .now) - (given .frame + 31) - given .at) (given .at) (given .end) (omega arith) (omega arith) _ _ _ (heard told made) .only,
+          (8 * length (given .buffer .now) - (given .frame + 31) - given .at) (given .at) (given .end) (omega arith) (omega arith) _ _ _
+          (heard told made) .only,
     )
 
 pub sought-spec : {M : Type 1} → statement M

@@ -48,7 +48,8 @@ returns-2 c =
     let nine : given .number % 10 ≡ 9 = omega arith in
     let more : given .number / 10 + 1 ≡ (given .number + 1) / 10 = omega arith in
     let call = c .before .before .before .carry in
-    let carried = call .ensures .1 (codes "position ") (given .pen .digits - 1) (given .number / 10) refl (tenth-below (given .pen .digits) (given .number) (ready .count)) (ready .head) (c .if2 .taken) in (
+    let carried = call .ensures .1 (codes "position ") (given .pen .digits - 1) (given .number / 10) refl
+    (tenth-below (given .pen .digits) (given .number) (ready .count)) (ready .head) (c .if2 .taken) in (
       record {
         long = omega (arith, call .kept .0, ready .long);
         count = next-ten (given .pen .digits) (given .number) (ready .count) nine (carried .0);

@@ -108,10 +108,14 @@ many-requires c κs =
 
 add-at : tie.Need-add-at Inv-loop μ-loop
 add-at c =
-    let given = c .before .before .before .before .before .before .before .before .before .before .before .before .before .before .before .before .before .before .args in
-    let pre = c .before .before .before .before .before .before .before .before .before .before .before .before .before .before .before .before .before .before .pre in
+    let given =
+    c .before .before .before .before .before .before .before .before .before .before .before .before .before .before .before .before .before .before .args in
+    let pre =
+    c .before .before .before .before .before .before .before .before .before .before .before .before .before .before .before .before .before .before .pre in
     let loop = c .before .before .before .before .before .before .before .before .before .before .before .before .before .before .loop in
-    let taken = both (loop .dense && leb 11265 (length (loop .block) - loop .pen .used)) (leb 288 (given .end - loop .at)) (c .before .before .before .before .before .before .before .before .before .before .if2 .taken) in
+    let taken =
+    both (loop .dense && leb 11265 (length (loop .block) - loop .pen .used)) (leb 288 (given .end - loop .at))
+    (c .before .before .before .before .before .before .before .before .before .before .if2 .taken) in
     let left : 288 ≤ given .end - loop .at = leb-true _ _ (taken .1) in
     let high : given .end + given .frame + 31 ≤ 8 * length (given .buffer .now) = pre .1 .1 .0 in
     let below : given .base + 8 * length (given .buffer .now) ≤ 9223372036854775808 = pre .1 .1 .1 .0 in
@@ -122,7 +126,8 @@ loop-less c = search needs
 
 loop-again : tie.Need-loop-again Inv-loop μ-loop
 loop-again c =
-    let given = c .before .before .before .before .before .before .before .before .before .before .before .before .before .before .before .before .before .before .args in
+    let given =
+    c .before .before .before .before .before .before .before .before .before .before .before .before .before .before .before .before .before .before .args in
     let loop = c .before .before .before .before .before .before .before .before .before .before .before .before .before .before .loop in
     let inv = loop .inv in
     let many = c .before .before .before .before .before .many in
@@ -188,7 +193,8 @@ add-one c =
     (c .before .before .before .before .before .sought .ensures .0) in
     let high : given .end + given .frame + 31 ≤ 8 * length
     (given .buffer .now) = c .before .before .before .before .before .before .before .before .before .before .before .before .before .before .pre .1 .1 .0 in
-    let below : given .base + 8 * length (given .buffer .now) ≤ 9223372036854775808 = c .before .before .before .before .before .before .before .before .before .before .before .before .before .before .pre .1 .1 .1 .0 in
+    let below : given .base + 8 * length (given .buffer .now) ≤ 9223372036854775808 =
+    c .before .before .before .before .before .before .before .before .before .before .before .before .before .before .pre .1 .1 .1 .0 in
     record { fits = omega (arith, within .1, high, below) }
 
 one-requires : tie.Need-one-requires Inv-loop μ-loop
@@ -202,7 +208,8 @@ one-requires c κs =
     (c .before .before .before .before .before .sought .ensures .0) in
     let high : given .end + given .frame + 31 ≤ 8 * length
     (given .buffer .now) = c .before .before .before .before .before .before .before .before .before .before .before .before .before .before .pre .1 .1 .0 in
-    let below : given .base + 8 * length (given .buffer .now) ≤ 9223372036854775808 = c .before .before .before .before .before .before .before .before .before .before .before .before .before .before .pre .1 .1 .1 .0 in
+    let below : given .base + 8 * length (given .buffer .now) ≤ 9223372036854775808 =
+    c .before .before .before .before .before .before .before .before .before .before .before .before .before .before .pre .1 .1 .1 .0 in
     let number : given .base + c .before .before .before .p .given .0 .0 < 9223372036854775808 = omega (arith, within .1, high, below) in
     let room : 45 ≤ length (loop .block) - loop .pen .used = c .before .before .before .before .before .before .before .before .is-full .ensures .1
     (c .before .before .before .before .before .before .before .if1 .left) in
@@ -211,7 +218,9 @@ one-requires c κs =
 
 sub-dense : tie.Need-sub-dense Inv-loop μ-loop
 sub-dense c =
-    let given = c .before .before .before .before .before .before .before .before .before .before .before .before .before .before .before .before .before .before .before .args in
+    let given =
+    c .before .before .before .before .before .before .before .before .before .before .before .before .before .before .before .before .before .before
+    .before .args in
     let loop = c .before .before .before .before .before .before .before .before .before .before .before .before .before .before .before .loop in
     let within : Within (loop .at) (given .end)
     (Answer.Found (c .before .before .before .before .before .before .before .before .p .given .0 .0)
@@ -223,7 +232,9 @@ sub-dense c =
 
 add-at-2 : tie.Need-add-at-2 Inv-loop μ-loop
 add-at-2 c =
-    let given = c .before .before .before .before .before .before .before .before .before .before .before .before .before .before .before .before .before .before .before .args in
+    let given =
+    c .before .before .before .before .before .before .before .before .before .before .before .before .before .before .before .before .before .before
+    .before .args in
     let loop = c .before .before .before .before .before .before .before .before .before .before .before .before .before .before .before .loop in
     let within : Within (loop .at) (given .end)
     (Answer.Found (c .before .before .before .before .before .before .before .before .p .given .0 .0)
@@ -231,13 +242,19 @@ add-at-2 c =
     (c .before .before .before .before .before .before .before .before .p .given .0 .1 .1 .0)) = rw
     (c .before .before .before .before .before .before .before .before .p .given .1) at
     (c .before .before .before .before .before .before .before .before .before .before .sought .ensures .0) in
-    let high : given .end + given .frame + 31 ≤ 8 * length (given .buffer .now) = c .before .before .before .before .before .before .before .before .before .before .before .before .before .before .before .before .before .before .before .pre .1 .1 .0 in
-    let below : given .base + 8 * length (given .buffer .now) ≤ 9223372036854775808 = c .before .before .before .before .before .before .before .before .before .before .before .before .before .before .before .before .before .before .before .pre .1 .1 .1 .0 in
+    let high : given .end + given .frame + 31 ≤ 8 * length (given .buffer .now) =
+    c .before .before .before .before .before .before .before .before .before .before .before .before .before .before .before .before .before .before
+    .before .pre .1 .1 .0 in
+    let below : given .base + 8 * length (given .buffer .now) ≤ 9223372036854775808 =
+    c .before .before .before .before .before .before .before .before .before .before .before .before .before .before .before .before .before .before
+    .before .pre .1 .1 .1 .0 in
     record { fits = omega (arith, within .1, high, below) }
 
 loop-less-2 : tie.Need-loop-less-2 Inv-loop μ-loop
 loop-less-2 c =
-    let given = c .before .before .before .before .before .before .before .before .before .before .before .before .before .before .before .before .before .before .before .args in
+    let given =
+    c .before .before .before .before .before .before .before .before .before .before .before .before .before .before .before .before .before .before
+    .before .args in
     let loop = c .before .before .before .before .before .before .before .before .before .before .before .before .before .before .before .loop in
     let within : Within (loop .at) (given .end)
     (Answer.Found (c .before .before .before .before .before .before .before .before .p .given .0 .0)
@@ -249,7 +266,9 @@ loop-less-2 c =
 
 loop-again-2 : tie.Need-loop-again-2 Inv-loop μ-loop
 loop-again-2 c =
-    let given = c .before .before .before .before .before .before .before .before .before .before .before .before .before .before .before .before .before .before .before .args in
+    let given =
+    c .before .before .before .before .before .before .before .before .before .before .before .before .before .before .before .before .before .before
+    .before .args in
     let loop = c .before .before .before .before .before .before .before .before .before .before .before .before .before .before .before .loop in
     let within : Within (loop .at) (given .end)
     (Answer.Found (c .before .before .before .before .before .before .before .before .p .given .0 .0)
@@ -261,7 +280,9 @@ loop-again-2 c =
     let one = c .before .before .before .before .one in
     let p = c .before .before .before .before .before .before .before .before .p .given .0 .0 in
     let next : given .base + p + 1 ≡ given .base + (p + 1) = omega arith in
-    let room : 45 ≤ length (loop .block) - loop .pen .used = c .before .before .before .before .before .before .before .before .before .before .before .before .before .is-full .ensures .1 (c .before .before .before .before .before .before .before .before .before .before .before .before .if1 .left) in
+    let room : 45 ≤ length (loop .block) - loop .pen .used =
+    c .before .before .before .before .before .before .before .before .before .before .before .before .before .is-full .ensures .1
+    (c .before .before .before .before .before .before .before .before .before .before .before .before .if1 .left) in
     let size : length (loop .block) ≡ length (given .block .now) = inv .2 in
     let used : one .result .used ≤ loop .pen .used + 44 = one .ensures .1 .1 in (
       omega (arith, inv .0, within .0),
@@ -272,7 +293,8 @@ loop-again-2 c =
       inv .5,
       omega (arith, used, room, size),
       λ e. rw next at (one .ensures .0),
-      λ made. let put = one-more (bits (given .buffer .now)) (marker-bits (given .marker)) (given .tolerance) (given .frame) (given .base) (given .from) (loop .at)
+      λ made. let put = one-more (bits (given .buffer .now)) (marker-bits (given .marker)) (given .tolerance) (given .frame) (given .base) (given .from)
+          (loop .at)
           (inv .0) (inv .8 made .0) p _ _ (within .0)
           (rw (c .before .before .before .before .before .before .before .before .p .given .1) at
           (c .before .before .before .before .before .before .before .before .before .before .sought .ensures .1 made)) (one .ensures .1 .0) in

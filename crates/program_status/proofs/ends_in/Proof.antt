@@ -15,8 +15,15 @@ whole n l = take-all (length l - n) (drop n l) (simp length-drop (omega arith))
 
 returns : tie.Need-returns
 returns c =
-    let given = c .before .before .before .args in
-    (λ e. absurd (false≢true e), λ e. absurd (omega (arith, ap length e, length-drop (length (given .text .now) - length (given .end .now)) (given .text .now))))
+    let given = c .before .before .before .args in (
+      λ e. absurd (false≢true e),
+      λ e. absurd (omega (
+        arith,
+        ap length e,
+        length-drop (length (given .text .now) - length (given .end .now))
+            (given .text .now),
+      )),
+    )
 
 sub-from : tie.Need-sub-from
 sub-from c = search needs

@@ -44,8 +44,12 @@ same-length c = search needs
 
 returns : tie.Need-returns
 returns c =
-    plain-put _ _ (c .before .before .before .before .before .before .before .before .before .before .before .before .before .before .before .before .before .before .before .before .before .of .ensures ∙ ap form (c .before .before .before .before .before .before .before .before .before .before .before .before .before .before .before .before .before .before .before .before .before .before .operation .ensures))
-    (rw (c .before .before .before .before .before .before .before .before .before .before .before .before .before .before .before .before .before .before .before .before .before .before .operation .ensures) at (c .before .before .before .before .before .before .before .before .before .before .before .before .before .before .before .before .before .before .before .put-name .ensures))
+    plain-put _ _ (c .before .before .before .before .before .before .before .before .before .before .before .before .before .before .before .before .before
+    .before .before .before .before .of .ensures ∙ ap form (c .before .before .before .before .before .before .before .before .before .before .before
+    .before .before .before .before .before .before .before .before .before .before .before .operation .ensures))
+    (rw (c .before .before .before .before .before .before .before .before .before .before .before .before .before .before .before .before .before .before
+    .before .before .before .before .operation .ensures) at (c .before .before .before .before .before .before .before .before .before .before .before
+    .before .before .before .before .before .before .before .before .put-name .ensures))
     (c .before .before .before .before .before .before .before .before .before .before .before .before .before .before .before .put-fields .ensures)
     (c .before .before .before .before .before .before .before .before .before .before .before .put-fields2 .ensures)
     (c .before .before .before .before .before .before .before .put-fields3 .ensures)

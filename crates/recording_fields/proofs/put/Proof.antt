@@ -59,7 +59,8 @@ returns c =
     (p .copy .ensures .1) (w₁ .put-word .ensures) (w₂ .put-word2 .ensures) (w₃ .put-word3 .ensures) (k .put-word4 .ensures)
     ∙ rw (eq-eqb _ _ (p .before .before .before .if1 .taken), eq-eqb _ _ (p .before .before .if2 .taken))
     (ap (λ (l : List ℕ). now (a .s) ++ l) (sym
-    (trace-words (a .lo) (a .hi) (a .refused) (a .kind) (a .bits) _ _ (start .fits .lo .fits) (w₃ .before .ending-word .ensures) (k .before .scalar-word .ensures))))
+    (trace-words (a .lo) (a .hi) (a .refused) (a .kind) (a .bits) _ _ (start .fits .lo .fits) (w₃ .before .ending-word .ensures)
+    (k .before .scalar-word .ensures))))
 
 returns-2 : tie.Need-returns-2
 returns-2 c = rw (eq-eqb _ _ (c .before .if1 .taken), ne-eqb _ _ (c .if2 .left))

@@ -40,7 +40,8 @@ returns c = not-whole _ (sym (c .before .is-whole .ensures) ∙ not-true (c .bef
 returns-2 : tie.Need-returns-2
 returns-2 c = not-right _ (is-whole (c .before .before)) (sym (c .before .all-right .ensures) ∙ not-true (c .before .all-right .result) (c .if2 .taken))
 
-are-right : (c : tie.Else2) → each-below (blocks (now (c .before .before .before .before .before .args .file))) (right-block (now (c .before .before .before .before .before .args .file))) ≡ true
+are-right : (c : tie.Else2) → each-below (blocks (now (c .before .before .before .before .before .args .file)))
+    (right-block (now (c .before .before .before .before .before .args .file))) ≡ true
 are-right c = sym (c .before .all-right .ensures) ∙ not-false (c .before .all-right .result) (c .if2 .left)
 
 returns-3 : tie.Need-returns-3

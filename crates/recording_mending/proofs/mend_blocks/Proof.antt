@@ -44,7 +44,8 @@ returns c =
     let file = now (a .file) in
     let more = c .before .before .before .loop-test .taken in
     let stop = ends (block file (l .k)) (c .before .place .result) (of-block (block file (l .k)) (search needs) (c .before .place .ensures)) (c .if1 .taken) in
-    ended file (l .k) true (l .bits) (l .out) (now (a .out)) (sym (no-more file (blocks file) (l .k) more stop) ∙ l .inv .5) (sym (lt-ltb (l .k) (blocks file) more)) (l .inv .6) (l .inv .7)
+    ended file (l .k) true (l .bits) (l .out) (now (a .out)) (sym (no-more file (blocks file) (l .k) more stop) ∙ l .inv .5)
+    (sym (lt-ltb (l .k) (blocks file) more)) (l .inv .6) (l .inv .7)
 
 loop-again : tie.Need-loop-again Inv-loop μ-loop
 loop-again c =
@@ -75,9 +76,13 @@ returns-2 c =
     let a = c .before .before .before .before .args in
     let file = now (a .file) in
     let none = c .loop-test .left in
-    ended file (l .k) false (l .bits) (l .out) (now (a .out)) (sym (none-left file (blocks file) (l .k) none) ∙ l .inv .5) (sym (le-ltb (l .k) (blocks file) none)) (l .inv .6) (l .inv .7)
+    ended file (l .k) false (l .bits) (l .out) (now (a .out)) (sym (none-left file (blocks file) (l .k) none) ∙ l .inv .5)
+    (sym (le-ltb (l .k) (blocks file) none)) (l .inv .6) (l .inv .7)
 
 pub mend-blocks-spec : {M : Type 1} → statement M
 mend-blocks-spec =
     tie.close
-    (tie.spec Inv-loop μ-loop loop-holds (λ c. omega arith) (λ c. omega arith) (λ c. omega arith) (λ c. omega arith) (λ c. omega arith) (λ c κs. search needs) same-length returns (λ c. omega arith) (λ c. omega arith) (λ c. omega arith) (λ c. omega arith) (λ c. omega arith) (λ c. omega arith) (λ c κs. search needs) (λ c. omega arith) (λ c. omega arith) (λ c. omega arith) (λ c. omega arith) loop-again same-length-2 returns-2)
+    (tie.spec Inv-loop μ-loop loop-holds (λ c. omega arith) (λ c. omega arith) (λ c. omega arith) (λ c. omega arith) (λ c. omega arith)
+    (λ c κs. search needs) same-length returns (λ c. omega arith) (λ c. omega arith) (λ c. omega arith) (λ c. omega arith) (λ c. omega arith)
+    (λ c. omega arith) (λ c κs. search needs) (λ c. omega arith) (λ c. omega arith) (λ c. omega arith)
+    (λ c. omega arith) loop-again same-length-2 returns-2)

@@ -1,4 +1,5 @@
--- `recording_mending_place::walk` meets its contract. The loop's invariant: w is the register that a flip of bit 4095 - i gives, and no bit past that gives q. Assumes nothing.
+-- `recording_mending_place::walk` meets its contract. The loop's invariant: w is the register that a flip of bit 4095 - i gives, and no bit past that gives q.
+-- Assumes nothing.
 use mathlib.Core.Path.{_≡_, refl, sym, ap, _∙_}
 use Prim.Native.Nat.{ℕ, _+_, _-_, _≤_, _<_}
 use native.Mathlib.Decide.{decLt}

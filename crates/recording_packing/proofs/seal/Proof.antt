@@ -27,4 +27,5 @@ returns-3 c = rw (room (c .before .before .before .before)) (c .before .before .
 pub seal-spec : {M : Type 1} → statement M
 seal-spec =
     tie.close
-    (tie.spec returns (λ c. omega arith) (λ c κs. search needs) returns-2 (λ c κs. (omega arith, fitting _ _ (room (c .before)) .enough)) (λ c. search needs) returns-3)
+    (tie.spec returns (λ c. omega arith) (λ c κs. search needs) returns-2 (λ c κs. (omega arith, fitting _ _ (room (c .before)) .enough))
+    (λ c. search needs) returns-3)

@@ -47,7 +47,8 @@ loop-less c = search needs
 loop-again : tie.Need-loop-again Inv-loop μ-loop
 loop-again c =
     let loop = c .before .before .before .loop in
-    turned _ _ _ (loop .first) (loop .i) (c .popcnt8 .result) (loop .inv) (search needs) (c .before .slice-known2 .given (loop .i)) (c .before .before .before .before .before .before .slice-known .given (loop .i)) (c .popcnt8 .ok) (c .popcnt8 .ensures)
+    turned _ _ _ (loop .first) (loop .i) (c .popcnt8 .result) (loop .inv) (search needs) (c .before .slice-known2 .given (loop .i))
+    (c .before .before .before .before .before .before .slice-known .given (loop .i)) (c .popcnt8 .ok) (c .popcnt8 .ensures)
 
 same-length : tie.Need-same-length Inv-loop μ-loop
 same-length c = c .before .loop .inv .1 .0

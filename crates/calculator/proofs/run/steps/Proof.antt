@@ -15,7 +15,8 @@ use Rattle.calculator.proofs.run.steps.Tie as tie
 
 abbrev Inv-loop : tie.InvT-loop
 Inv-loop w₀ writers₀ list place limit n end scalar₀ at₀ w writers scalar at =
-    (place ≤ at) × (at ≤ end) × (rest n place limit list at (held w writers scalar) ≡ steps (n - place) limit place (drop (32 * place) list) (held w₀ writers₀ scalar₀))
+    (place ≤ at) × (at ≤ end) × (rest n place limit list at (held w writers scalar)
+    ≡ steps (n - place) limit place (drop (32 * place) list) (held w₀ writers₀ scalar₀))
 
 abbrev μ-loop : tie.MeasureT-loop
 μ-loop w₀ writers₀ list place limit n end scalar₀ at₀ w writers scalar at = end - at
@@ -54,7 +55,8 @@ loop-again c =
     let more : l .at < n = omega (arith, s .ensures) in
     let allowed : l .at < a .place + a .limit = omega (arith, s .ensures) in
     let part : 32 * l .at + 32 - 32 * l .at ≡ 32 = omega arith in
-    let e : step (l .at) (held (l .w) (l .writers) (l .scalar)) (take 32 (drop (32 * l .at) list)) ≡ given (held (k .step .last .0) (k .step .last .1 .0) (k .step .result .scalar)) =
+    let e : step (l .at) (held (l .w) (l .writers) (l .scalar)) (take 32 (drop (32 * l .at) list))
+    ≡ given (held (k .step .last .0) (k .step .last .1 .0) (k .step .result .scalar)) =
     (rw (part, c .if1 .left) at (sym (k .step .ensures .0))) in
     (omega arith, omega arith, sym (turn n (a .place) (a .limit) (l .at) list (held (l .w) (l .writers) (l .scalar)) (l .inv .0) more allowed _ e) ∙ l .inv .2)
 

@@ -1,4 +1,5 @@
--- `gatulefo::arithmetic::gatulefo_i16x8_abs` meets its contract, which is that of `i16x8_abs`. Made by link/exports. Assumes nothing.
+-- `gatulefo::arithmetic::gatulefo_i16x8_abs` meets its contract, which is that of `i16x8_abs`.
+-- Made by link/exports. Assumes nothing.
 use Rattle.standard.proofs.Calls.{nothing}
 use Rattle.gatulefo.proofs.arithmetic.gatulefo_i16x8_abs.Statement.{statement}
 use Rattle.gatulefo.proofs.arithmetic.gatulefo_i16x8_abs.Tie as tie

@@ -1,4 +1,5 @@
--- `gatulefo::compare::gatulefo_i8x16_eq` meets its contract, which is that of `i8x16_eq`. Made by link/exports. Assumes nothing.
+-- `gatulefo::compare::gatulefo_i8x16_eq` meets its contract, which is that of `i8x16_eq`.
+-- Made by link/exports. Assumes nothing.
 use Rattle.standard.proofs.Calls.{nothing}
 use Rattle.gatulefo.proofs.compare.gatulefo_i8x16_eq.Statement.{statement}
 use Rattle.gatulefo.proofs.compare.gatulefo_i8x16_eq.Tie as tie

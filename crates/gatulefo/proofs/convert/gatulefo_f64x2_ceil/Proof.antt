@@ -1,4 +1,5 @@
--- `gatulefo::convert::gatulefo_f64x2_ceil` meets its contract, which is that of `f64x2_ceil`. Made by link/exports. Assumes nothing.
+-- `gatulefo::convert::gatulefo_f64x2_ceil` meets its contract, which is that of `f64x2_ceil`.
+-- Made by link/exports. Assumes nothing.
 use Rattle.standard.proofs.Calls.{nothing}
 use Rattle.gatulefo.proofs.convert.gatulefo_f64x2_ceil.Statement.{statement}
 use Rattle.gatulefo.proofs.convert.gatulefo_f64x2_ceil.Tie as tie

@@ -1,4 +1,5 @@
--- `gatulefo::convert::gatulefo_f64x2_promote_low_f32x4` meets its contract, which is that of `f64x2_promote_low_f32x4`. Made by link/exports. Assumes nothing.
+-- `gatulefo::convert::gatulefo_f64x2_promote_low_f32x4` meets its contract, which is that of `f64x2_promote_low_f32x4`.
+-- Made by link/exports. Assumes nothing.
 use Rattle.standard.proofs.Calls.{nothing}
 use Rattle.gatulefo.proofs.convert.gatulefo_f64x2_promote_low_f32x4.Statement.{statement}
 use Rattle.gatulefo.proofs.convert.gatulefo_f64x2_promote_low_f32x4.Tie as tie

@@ -1,4 +1,5 @@
--- `gatulefo::float::gatulefo_f64x2_gt` meets its contract, which is that of `f64x2_gt`. Made by link/exports. Assumes nothing.
+-- `gatulefo::float::gatulefo_f64x2_gt` meets its contract, which is that of `f64x2_gt`.
+-- Made by link/exports. Assumes nothing.
 use Rattle.standard.proofs.Calls.{nothing}
 use Rattle.gatulefo.proofs.float.gatulefo_f64x2_gt.Statement.{statement}
 use Rattle.gatulefo.proofs.float.gatulefo_f64x2_gt.Tie as tie

@@ -1,4 +1,5 @@
--- `gatulefo::float::gatulefo_f64x2_pmin` meets its contract, which is that of `f64x2_pmin`. Made by link/exports. Assumes nothing.
+-- `gatulefo::float::gatulefo_f64x2_pmin` meets its contract, which is that of `f64x2_pmin`.
+-- Made by link/exports. Assumes nothing.
 use Rattle.standard.proofs.Calls.{nothing}
 use Rattle.gatulefo.proofs.float.gatulefo_f64x2_pmin.Statement.{statement}
 use Rattle.gatulefo.proofs.float.gatulefo_f64x2_pmin.Tie as tie

@@ -1,4 +1,5 @@
--- `gatulefo::packed_form::gatulefo_packed_i16x8_shl` meets its contract, which is that of `i16x8_shl`. Made by link/exports. Assumes nothing.
+-- `gatulefo::packed_form::gatulefo_packed_i16x8_shl` meets its contract, which is that of `i16x8_shl`.
+-- Made by link/exports. Assumes nothing.
 use Rattle.standard.proofs.Calls.{nothing}
 use Rattle.gatulefo.proofs.packed_form.gatulefo_packed_i16x8_shl.Statement.{statement}
 use Rattle.gatulefo.proofs.packed_form.gatulefo_packed_i16x8_shl.Tie as tie

@@ -1,4 +1,5 @@
--- `gatulefo::packed_form::gatulefo_packed_v128_any_true` meets its contract, which is that of `v128_any_true`. Made by link/exports. Assumes nothing.
+-- `gatulefo::packed_form::gatulefo_packed_v128_any_true` meets its contract, which is that of `v128_any_true`.
+-- Made by link/exports. Assumes nothing.
 use Rattle.standard.proofs.Calls.{nothing}
 use Rattle.gatulefo.proofs.packed_form.gatulefo_packed_v128_any_true.Statement.{statement}
 use Rattle.gatulefo.proofs.packed_form.gatulefo_packed_v128_any_true.Tie as tie

@@ -1,4 +1,5 @@
--- `gatulefo::rearrange::gatulefo_value_i8x16_shuffle` meets its contract: the answer of `i8x16_shuffle` by the lanes of the third vector, as C is handed it. Assumes nothing.
+-- `gatulefo::rearrange::gatulefo_value_i8x16_shuffle` meets its contract: the answer of `i8x16_shuffle` by the lanes of the third vector, as C is handed it.
+-- Assumes nothing.
 use Prim.Native.Nat.{ℕ}
 use mathlib.Core.Path.{_≡_, ap, _∙_}
 use mathlib.Core.List.{List}

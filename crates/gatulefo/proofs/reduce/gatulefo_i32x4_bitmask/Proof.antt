@@ -1,4 +1,5 @@
--- `gatulefo::reduce::gatulefo_i32x4_bitmask` meets its contract, which is that of `i32x4_bitmask`. Made by link/exports. Assumes nothing.
+-- `gatulefo::reduce::gatulefo_i32x4_bitmask` meets its contract, which is that of `i32x4_bitmask`.
+-- Made by link/exports. Assumes nothing.
 use Rattle.standard.proofs.Calls.{nothing}
 use Rattle.gatulefo.proofs.reduce.gatulefo_i32x4_bitmask.Statement.{statement}
 use Rattle.gatulefo.proofs.reduce.gatulefo_i32x4_bitmask.Tie as tie

@@ -1,4 +1,5 @@
--- `gatulefo::reduce::gatulefo_i64x2_bitmask` meets its contract, which is that of `i64x2_bitmask`. Made by link/exports. Assumes nothing.
+-- `gatulefo::reduce::gatulefo_i64x2_bitmask` meets its contract, which is that of `i64x2_bitmask`.
+-- Made by link/exports. Assumes nothing.
 use Rattle.standard.proofs.Calls.{nothing}
 use Rattle.gatulefo.proofs.reduce.gatulefo_i64x2_bitmask.Statement.{statement}
 use Rattle.gatulefo.proofs.reduce.gatulefo_i64x2_bitmask.Tie as tie

@@ -1,4 +1,5 @@
--- `gatulefo::reduce::gatulefo_v128_any_true` meets its contract, which is that of `v128_any_true`. Made by link/exports. Assumes nothing.
+-- `gatulefo::reduce::gatulefo_v128_any_true` meets its contract, which is that of `v128_any_true`.
+-- Made by link/exports. Assumes nothing.
 use Rattle.standard.proofs.Calls.{nothing}
 use Rattle.gatulefo.proofs.reduce.gatulefo_v128_any_true.Statement.{statement}
 use Rattle.gatulefo.proofs.reduce.gatulefo_v128_any_true.Tie as tie

@@ -1,4 +1,5 @@
--- `gatulefo::relaxed::gatulefo_f32x4_relaxed_max` meets its contract, which is that of `f32x4_relaxed_max`. Made by link/exports. Assumes nothing.
+-- `gatulefo::relaxed::gatulefo_f32x4_relaxed_max` meets its contract, which is that of `f32x4_relaxed_max`.
+-- Made by link/exports. Assumes nothing.
 use Rattle.standard.proofs.Calls.{nothing}
 use Rattle.gatulefo.proofs.relaxed.gatulefo_f32x4_relaxed_max.Statement.{statement}
 use Rattle.gatulefo.proofs.relaxed.gatulefo_f32x4_relaxed_max.Tie as tie

@@ -1,4 +1,5 @@
--- `gatulefo::relaxed::gatulefo_f64x2_relaxed_max` meets its contract, which is that of `f64x2_relaxed_max`. Made by link/exports. Assumes nothing.
+-- `gatulefo::relaxed::gatulefo_f64x2_relaxed_max` meets its contract, which is that of `f64x2_relaxed_max`.
+-- Made by link/exports. Assumes nothing.
 use Rattle.standard.proofs.Calls.{nothing}
 use Rattle.gatulefo.proofs.relaxed.gatulefo_f64x2_relaxed_max.Statement.{statement}
 use Rattle.gatulefo.proofs.relaxed.gatulefo_f64x2_relaxed_max.Tie as tie

@@ -1,4 +1,5 @@
--- `gatulefo::relaxed::gatulefo_i32x4_relaxed_dot_i8x16_i7x16_add_s` meets its contract, which is that of `i32x4_relaxed_dot_i8x16_i7x16_add_s`. Made by link/exports. Assumes nothing.
+-- `gatulefo::relaxed::gatulefo_i32x4_relaxed_dot_i8x16_i7x16_add_s` meets its contract, which is that of `i32x4_relaxed_dot_i8x16_i7x16_add_s`.
+-- Made by link/exports. Assumes nothing.
 use Rattle.standard.proofs.Calls.{nothing}
 use Rattle.gatulefo.proofs.relaxed.gatulefo_i32x4_relaxed_dot_i8x16_i7x16_add_s.Statement.{statement}
 use Rattle.gatulefo.proofs.relaxed.gatulefo_i32x4_relaxed_dot_i8x16_i7x16_add_s.Tie as tie

@@ -1,4 +1,5 @@
--- `gatulefo::relaxed::gatulefo_i8x16_relaxed_swizzle` meets its contract, which is that of `i8x16_relaxed_swizzle`. Made by link/exports. Assumes nothing.
+-- `gatulefo::relaxed::gatulefo_i8x16_relaxed_swizzle` meets its contract, which is that of `i8x16_relaxed_swizzle`.
+-- Made by link/exports. Assumes nothing.
 use Rattle.standard.proofs.Calls.{nothing}
 use Rattle.gatulefo.proofs.relaxed.gatulefo_i8x16_relaxed_swizzle.Statement.{statement}
 use Rattle.gatulefo.proofs.relaxed.gatulefo_i8x16_relaxed_swizzle.Tie as tie

@@ -1,4 +1,5 @@
--- `gatulefo::shift::gatulefo_i16x8_shl` meets its contract, which is that of `i16x8_shl`. Made by link/exports. Assumes nothing.
+-- `gatulefo::shift::gatulefo_i16x8_shl` meets its contract, which is that of `i16x8_shl`.
+-- Made by link/exports. Assumes nothing.
 use Rattle.standard.proofs.Calls.{nothing}
 use Rattle.gatulefo.proofs.shift.gatulefo_i16x8_shl.Statement.{statement}
 use Rattle.gatulefo.proofs.shift.gatulefo_i16x8_shl.Tie as tie

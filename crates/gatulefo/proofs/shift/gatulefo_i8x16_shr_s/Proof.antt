@@ -1,4 +1,5 @@
--- `gatulefo::shift::gatulefo_i8x16_shr_s` meets its contract, which is that of `i8x16_shr_s`. Made by link/exports. Assumes nothing.
+-- `gatulefo::shift::gatulefo_i8x16_shr_s` meets its contract, which is that of `i8x16_shr_s`.
+-- Made by link/exports. Assumes nothing.
 use Rattle.standard.proofs.Calls.{nothing}
 use Rattle.gatulefo.proofs.shift.gatulefo_i8x16_shr_s.Statement.{statement}
 use Rattle.gatulefo.proofs.shift.gatulefo_i8x16_shr_s.Tie as tie

@@ -1,4 +1,5 @@
--- `gatulefo::widen::gatulefo_v128_widen32x2_u` meets its contract, which is that of `v128_widen32x2_u`. Made by link/exports. Assumes nothing.
+-- `gatulefo::widen::gatulefo_v128_widen32x2_u` meets its contract, which is that of `v128_widen32x2_u`.
+-- Made by link/exports. Assumes nothing.
 use Rattle.standard.proofs.Calls.{nothing}
 use Rattle.gatulefo.proofs.widen.gatulefo_v128_widen32x2_u.Statement.{statement}
 use Rattle.gatulefo.proofs.widen.gatulefo_v128_widen32x2_u.Tie as tie

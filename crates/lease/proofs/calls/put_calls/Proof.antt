@@ -74,7 +74,8 @@ same-length-2 c = search needs
 returns-2 : tie.Need-returns-2 Inv-loop μ-loop
 returns-2 c =
     let l = c .before .before .before .before .before .before .before .before .before .before .before .before .before .before .loop in
-    let a = c .before .before .before .before .before .before .before .before .before .before .before .before .before .before .before .before .before .before .args in
+    let a =
+    c .before .before .before .before .before .before .before .before .before .before .before .before .before .before .before .before .before .before .args in
     let fuel = l .inv .3 .0 in
     let one : fuel ≡ suc (fuel - 1) = omega (arith, l .inv .3 .1) in
     let rest = rw one at (l .inv .3 .2) in
@@ -95,7 +96,9 @@ same-length-3 c = search needs
 returns-3 : tie.Need-returns-3 Inv-loop μ-loop
 returns-3 c =
     let l = c .before .before .before .before .before .before .before .before .before .before .before .before .before .before .before .loop in
-    let a = c .before .before .before .before .before .before .before .before .before .before .before .before .before .before .before .before .before .before .before .args in
+    let a =
+    c .before .before .before .before .before .before .before .before .before .before .before .before .before .before .before .before .before .before
+    .before .args in
     let fuel = l .inv .3 .0 in
     let one : fuel ≡ suc (fuel - 1) = omega (arith, l .inv .3 .1) in
     let rest = rw one at (l .inv .3 .2) in

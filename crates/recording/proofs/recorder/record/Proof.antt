@@ -33,9 +33,11 @@ returns-3 : tie.Need-returns-3
 returns-3 c =
     let i = c .before .before in
     let a = i .before .before .before .before .before .args in
-    when-short (now (a .list)) (now (a .out)) (accepted (i .before)) (i .if2 .left) (sym (c .before .has-room-for .ensures) ∙ not-true (c .before .has-room-for .result) (c .if3 .taken))
+    when-short (now (a .list)) (now (a .out)) (accepted (i .before)) (i .if2 .left)
+    (sym (c .before .has-room-for .ensures) ∙ not-true (c .before .has-room-for .result) (c .if3 .taken))
 
-room : (c : tie.Else3) → fits (length (records-of (now (c .before .before .before .before .before .before .before .args .list)))) (length (now (c .before .before .before .before .before .before .before .args .out))) ≡ true
+room : (c : tie.Else3) → fits (length (records-of (now (c .before .before .before .before .before .before .before .args .list))))
+    (length (now (c .before .before .before .before .before .before .before .args .out))) ≡ true
 room c = sym (c .before .has-room-for .ensures) ∙ not-false (c .before .has-room-for .result) (c .if3 .left)
 
 record-steps-requires : tie.Need-record-steps-requires
@@ -50,10 +52,12 @@ returns-4 c =
     let n = q .record-steps .result in
     let left = q .record-steps .last .1 .0 in
     ap (λ (b : ℕ). (wrote (512 * b), c .before .before .seal .last .0)) (let same : (n + 6) / 7 ≡ blocks-for (64 * n) = omega arith in same)
-    ∙ when-sealed (now (a .list)) (now (a .out)) (accepted (i .before)) (i .if2 .left) n left (room e) (q .record-steps .kept .1 .0) (q .record-steps .ensures .0 .1)
+    ∙ when-sealed (now (a .list)) (now (a .out)) (accepted (i .before)) (i .if2 .left) n left (room e) (q .record-steps .kept .1 .0)
+    (q .record-steps .ensures .0 .1)
     (q .record-steps .ensures .1 .0) (q .record-steps .ensures .1 .1) (c .before .before .seal .ensures)
 
 pub record-spec : {M : Type 1} → statement M
 record-spec =
     tie.close
-    (tie.spec nothing returns returns-2 (λ c κs. accepted (c .before)) returns-3 record-steps-requires nothing (λ c. search needs) (λ c. search needs) (λ c. search needs) returns-4)
+    (tie.spec nothing returns returns-2 (λ c κs. accepted (c .before)) returns-3 record-steps-requires nothing (λ c. search needs) (λ c. search needs)
+    (λ c. search needs) returns-4)

@@ -31,11 +31,13 @@ unfolding records-of standing
 loop-holds c = (refl, omega arith, omega arith, omega arith, refl, rw sub-zero (omega arith), rw sub-zero, refl)
 
 -- the next record has its place
-room : (c : tie.After-account Inv-loop μ-loop) → place (c .before .before .before .before .before .loop .at) + 64 ≤ length (c .before .before .before .before .before .loop .out)
+room : (c : tie.After-account Inv-loop μ-loop) → place (c .before .before .before .before .before .loop .at)
+    + 64 ≤ length (c .before .before .before .before .before .loop .out)
 room c =
     let l = c .before .before .before .before .before .loop in
     let a = c .before .before .before .before .before .before .before .before .args in
-    has-place (length (now (a .list)) / 32) (l .at) (now (a .list)) (held (l .w) (l .writers) (l .scalar)) (omega arith) (omega arith) (length (records-of (now (a .list)))) (l .inv .5) (length (l .out)) (l .inv .3)
+    has-place (length (now (a .list)) / 32) (l .at) (now (a .list)) (held (l .w) (l .writers) (l .scalar)) (omega arith) (omega arith)
+    (length (records-of (now (a .list)))) (l .inv .5) (length (l .out)) (l .inv .3)
 
 same-length : tie.Need-same-length Inv-loop μ-loop
 same-length c =
@@ -52,12 +54,17 @@ returns c =
     let n = length (now (a .list)) / 32 in
     let m = held (l .w) (l .writers) (l .scalar) in
     let after = held (p .account .last .0) (p .account .last .1 .0) (p .account .result .scalar) in (
-      (omega arith, count-last n (l .at) (now (a .list)) m (omega arith) (omega arith) (p .account .result .refused) after (p .account .ensures .1 .1) (c .if1 .taken) ∙ l .inv .5),
+      (
+        omega arith,
+        count-last n (l .at) (now (a .list)) m (omega arith) (omega arith) (p .account .result .refused) after (p .account .ensures .1 .1)
+            (c .if1 .taken) ∙ l .inv .5,
+      ),
       (
         last-one n (l .at) (now (a .list)) (l .out) m (omega arith) (room p) (omega arith) _ (k .put .last .0) (p .account .ensures .0) (k .put .ensures)
             (p .account .result .refused) after (p .account .ensures .1 .1) (c .if1 .taken)
             ∙ l .inv .6,
-        as-before n (l .at) (now (a .list)) (l .out) m (omega arith) (room p) (omega arith) _ (k .put .last .0) (p .account .ensures .0) (k .put .ensures) (now (a .out)) (l .inv .7),
+        as-before n (l .at) (now (a .list)) (l .out) m (omega arith) (room p) (omega arith) _ (k .put .last .0) (p .account .ensures .0) (k .put .ensures)
+            (now (a .out)) (l .inv .7),
       ),
     )
 
@@ -76,11 +83,13 @@ loop-again c =
       l .inv .2,
       rw same (l .inv .3),
       same ∙ l .inv .4,
-      count-more n (l .at) (now (a .list)) m (omega arith) (omega arith) (p .account .result .refused) after (p .account .ensures .1 .1) (c .if1 .left) ∙ l .inv .5,
+      count-more n (l .at) (now (a .list)) m (omega arith) (omega arith) (p .account .result .refused) after (p .account .ensures .1 .1) (c .if1 .left)
+          ∙ l .inv .5,
       one-more n (l .at) (now (a .list)) (l .out) m (omega arith) (room p) (omega arith) _ (k .put .last .0) (p .account .ensures .0) (k .put .ensures)
           (p .account .result .refused) after (p .account .ensures .1 .1) (c .if1 .left)
           ∙ l .inv .6,
-      as-before n (l .at) (now (a .list)) (l .out) m (omega arith) (room p) (omega arith) _ (k .put .last .0) (p .account .ensures .0) (k .put .ensures) (now (a .out)) (l .inv .7),
+      as-before n (l .at) (now (a .list)) (l .out) m (omega arith) (room p) (omega arith) _ (k .put .last .0) (p .account .ensures .0) (k .put .ensures)
+          (now (a .out)) (l .inv .7),
     )
 
 returns-2 : tie.Need-returns-2 Inv-loop μ-loop
@@ -96,5 +105,7 @@ returns-2 c =
 pub record-steps-spec : {M : Type 1} → statement M
 record-steps-spec =
     tie.close
-    (tie.spec Inv-loop μ-loop loop-holds (λ c. omega arith) (λ c. omega arith) (λ c. omega arith) (λ c. omega arith) (λ c. omega arith) (λ c. omega arith) nothing (λ c. omega arith) (λ c. omega arith) (λ c. omega arith) (λ c. omega arith) (λ c. omega arith)
-    (λ c. omega arith) (λ c. omega (arith, room c)) (λ c. omega (arith, room c)) nothing (λ c. omega arith) same-length returns (λ c. omega arith) loop-again (λ c. c .before .loop .inv .4) returns-2)
+    (tie.spec Inv-loop μ-loop loop-holds (λ c. omega arith) (λ c. omega arith) (λ c. omega arith) (λ c. omega arith) (λ c. omega arith)
+    (λ c. omega arith) nothing (λ c. omega arith) (λ c. omega arith) (λ c. omega arith) (λ c. omega arith) (λ c. omega arith)
+    (λ c. omega arith) (λ c. omega (arith, room c)) (λ c. omega (arith, room c)) nothing (λ c. omega arith) same-length returns (λ c. omega arith) loop-again
+    (λ c. c .before .loop .inv .4) returns-2)
