@@ -57,17 +57,17 @@ pub fn trunc_sat_s32x4(a: [u32; 4]) -> [u32; 4]
     lanes(r)
 }
 
-// The whole part of the magnitude. What is below one first: half of all magnitudes are.
+// The whole part of the magnitude.
 fn part64(bits: u64) -> u32
     ensures { λ r. ⌜ r ≡ trunc-sat-u binary64 (bits % 2 ^ 63) ⌝ }
 {
     let size = bits % 0x8000_0000_0000_0000;
+    if 0x7FF0_0000_0000_0000 < size {
+        return OF_NAN;
+    }
     let field = size / 0x10_0000_0000_0000;
     if field < 1023 {
         return 0;
-    }
-    if 0x7FF0_0000_0000_0000 < size {
-        return OF_NAN;
     }
     if 1054 < field {
         return u32::MAX;

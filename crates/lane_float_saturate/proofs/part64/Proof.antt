@@ -14,13 +14,13 @@ use Rattle.lane_float_saturate.proofs.part64.Statement.{statement}
 use Rattle.lane_float_saturate.proofs.part64.Tie as tie
 
 returns : tie.Need-returns
-returns c = part-small binary64 (c .before .args .bits) (c .if1 .taken)
+returns c = part-of-nan binary64 (c .before .args .bits) (c .if1 .taken)
 
 returns-2 : tie.Need-returns-2
-returns-2 c = part-of-nan binary64 (c .before .before .args .bits) (c .if2 .taken)
+returns-2 c = part-small binary64 (c .before .before .args .bits) (c .if2 .taken)
 
 returns-3 : tie.Need-returns-3
-returns-3 c = part-large binary64 (c .before .before .before .args .bits) (c .before .if2 .left) (c .if3 .taken)
+returns-3 c = part-large binary64 (c .before .before .before .args .bits) (c .before .before .if1 .left) (c .if3 .taken)
 
 add-digits : tie.Need-add-digits
 add-digits c = search needs
@@ -38,9 +38,9 @@ part-is : (c : tie.Else3) → ((c .before .before .before .args .bits) % 4503599
     (1075 - field binary64 (c .before .before .before .args .bits)) ≡ trunc-sat-u binary64 ((c .before .before .before .args .bits) % 2 ^ 63)
 part-is c =
     ap (λ (n : ℕ). n / 2 ^ (1075 - field binary64 (c .before .before .before .args .bits)))
-    (digits-are binary64 (c .before .before .before .args .bits) (some _ (c .before .before .if1 .left))
+    (digits-are binary64 (c .before .before .before .args .bits) (some _ (c .before .if2 .left))
     ∙ sym (mul-one (digits binary64 (c .before .before .before .args .bits))))
-    ∙ part-middle binary64 (c .before .before .before .args .bits) 0 (some _ (c .before .before .if1 .left)) (le-trans (c .if3 .left) (lit≤ tt)) (c .if3 .left)
+    ∙ part-middle binary64 (c .before .before .before .args .bits) 0 (some _ (c .before .if2 .left)) (le-trans (c .if3 .left) (lit≤ tt)) (c .if3 .left)
 
 cast-result : tie.Need-cast-result
 cast-result c = record { fits = lt-of-le-of-lt (le-of-eq (part-is c)) (toUnsigned-lt 32 (ofBits binary64 ((c .before .before .before .args .bits) % 2 ^ 63))) }
