@@ -1,5 +1,5 @@
-// What `replay`, `record` and `mend` write beside files: each function puts all lines of an answer at the start of a lent buffer, and says how many bytes they
-// are.
+// What `replay`, `record` and `mend` write beside files: all lines of an answer at the start of a lent buffer, and how many bytes they are. The line of a replay
+// can be put from any place on.
 ghost use mathlib.Core.Path.{_≡_};
 ghost use Rattle.recording_compare.specs.Verdict as trace;
 ghost use Rattle.recording_rules.specs.Recorded as records;

@@ -106,7 +106,6 @@ show-within file = by (judged file) refl
           length-append (show-from n 0 file start) (replay (records.replay file)),
           from-length n 0 file start,
           counted file n e .0,
-          replay-length
-              (records.replay file),
+          replay-length (records.replay file),
         )
     by (layout.refused n) e = omega (arith, replay-length (records.replay file))

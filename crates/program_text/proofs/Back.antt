@@ -158,8 +158,7 @@ two-found b cs h =
       parts (glyph (b / 16 % 16)) (glyph-even (b / 16 % 16) high) .1,
       digit-glyph (b / 16 % 16) high,
       digit-glyph (b % 16) low,
-      lt-ltb
-          (b / 16 % 16) 16 high,
+      lt-ltb (b / 16 % 16) 16 high,
       lt-ltb (b % 16) 16 low,
     )
     (ap (λ (n : ℕ). found n cs) whole-byte)

@@ -183,8 +183,7 @@ mark-taken m t h k =
       ← append-nil (decimal m),
       skip-solid (decimal m) [] (decimal-solid m) (some-digits m h),
       after-of (decimal m) [] (decimal-solid m) refl,
-      word-of
-          (decimal m) [] (decimal-solid m) refl,
+      word-of (decimal m) [] (decimal-solid m) refl,
       decimal-back m h,
       le-leb 1 m (omega (arith, k)),
       le-leb m 255 (omega arith),
@@ -256,8 +255,7 @@ module _ (s : List ℕ) (o : Ordinary s) where
   form-taken t =
       rw (
         append-assoc (fields register (f .registers) (f .first) s) (fields lane (f .lanes) 6 s ++ fields byte (f .bytes) 16 s) (mark m),
-        append-assoc
-            (fields lane (f .lanes) 6 s) (fields byte (f .bytes) 16 s) (mark m),
+        append-assoc (fields lane (f .lanes) 6 s) (fields byte (f .bytes) 16 s) (mark m),
         registers-taken,
         lanes-taken,
       )
@@ -303,8 +301,7 @@ module _ (s : List ℕ) (o : Ordinary s) where
   ends-form =
       rw (
         append-assoc (fields register (f .registers) (f .first) s) (fields lane (f .lanes) 6 s ++ fields byte (f .bytes) 16 s) (mark m),
-        append-assoc
-            (fields lane (f .lanes) 6 s) (fields byte (f .bytes) 16 s) (mark m),
+        append-assoc (fields lane (f .lanes) 6 s) (fields byte (f .bytes) 16 s) (mark m),
       )
       (ends-fields register (λ b. b ≤ 15) (λ cs. ends cs ≡ true) register-taken (λ p b cs e. starts-register p b cs) (f .registers) (f .first) s _
       (ends-fields lane (λ b. b < 256) (λ cs. ends cs ≡ true) lane-taken (λ p b cs e. starts-lane p b cs) (f .lanes) 6 s _

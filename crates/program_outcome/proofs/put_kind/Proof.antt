@@ -33,8 +33,7 @@ unfolding codes
 returns-2 c =
     rw (
       ne-eqb (c .before .before .before .before .before .before .before .before .args .kind) 0 (λ e. omega arith),
-      eq-eqb
-          (c .before .before .before .before .before .before .before .before .args .kind) 1 (omega arith),
+      eq-eqb (c .before .before .before .before .before .before .before .before .args .kind) 1 (omega arith),
     ) (c .before .before .put2 .ensures)
 
 slice-aggregate-put-3 : tie.Need-slice-aggregate-put-3
@@ -51,10 +50,8 @@ unfolding codes
 returns-3 c =
     rw (
       ne-eqb (c .before .before .before .before .before .before .before .before .before .args .kind) 0 (λ e. omega arith),
-      ne-eqb
-          (c .before .before .before .before .before .before .before .before .before .args .kind) 1 (λ e. omega arith),
-      eq-eqb
-          (c .before .before .before .before .before .before .before .before .before .args .kind) 2 (omega arith),
+      ne-eqb (c .before .before .before .before .before .before .before .before .before .args .kind) 1 (λ e. omega arith),
+      eq-eqb (c .before .before .before .before .before .before .before .before .before .args .kind) 2 (omega arith),
     ) (c .before .before .put3 .ensures)
 
 slice-aggregate-put-4 : tie.Need-slice-aggregate-put-4
@@ -71,10 +68,8 @@ unfolding codes
 returns-4 c =
     rw (
       ne-eqb (c .before .before .before .before .before .before .before .before .before .args .kind) 0 (λ e. omega arith),
-      ne-eqb
-          (c .before .before .before .before .before .before .before .before .before .args .kind) 1 (λ e. omega arith),
-      ne-eqb
-          (c .before .before .before .before .before .before .before .before .before .args .kind) 2 (λ e. omega arith),
+      ne-eqb (c .before .before .before .before .before .before .before .before .before .args .kind) 1 (λ e. omega arith),
+      ne-eqb (c .before .before .before .before .before .before .before .before .before .args .kind) 2 (λ e. omega arith),
     ) (c .before .before .put4 .ensures)
 
 pub put-kind-spec : {M : Type 1} → statement M

@@ -18,8 +18,7 @@ unfolding record-text
 returns-2 c =
     rw (
       eq-eqb (length (now (c .before .before .before .before .before .args .r))) 64 (omega arith),
-      ne-eqb
-          (length (now (c .before .before .before .before .before .args .d))) 64 (λ e. omega arith),
+      ne-eqb (length (now (c .before .before .before .before .before .args .d))) 64 (λ e. omega arith),
     ) (no-more _ _)
 
 put-head-requires : tie.Need-put-head-requires

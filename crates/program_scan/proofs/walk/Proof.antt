@@ -75,8 +75,7 @@ returns c =
         exact = inv .8 made .1;
         fits = inv .6;
         full = λ h. (
-          omega
-              (arith, full .0, inv .2),
+          omega (arith, full .0, inv .2),
           λ z. omega (arith, full .1 z, inv .2),
         );
       },
