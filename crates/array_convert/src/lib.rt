@@ -1,5 +1,7 @@
 // Lanes in another format, over arrays of lanes: roundings to whole numbers, and conversions and casts between 32 and 64 bits, each told by a constant number.
 // Where a vector of 32-bit lanes becomes one of 64-bit lanes, or the other way round, here stands which lanes are taken and where zeros are put.
+#![tactic(auto)]
+
 ghost use Rattle.std.specs.Prelude.{◌≡◌, ◌∷◌, [], map};
 ghost use Rattle.standard.specs.Lanes.{joined, low_half};
 ghost use Rattle.array_convert.specs.Reformat.{format32_of, format64_of, low_of, zero_of};

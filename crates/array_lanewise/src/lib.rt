@@ -1,5 +1,7 @@
 // A lane operation by its number: what a loop over lanes is told in place of the Rust's closure. The number is a constant wherever a loop is
 // called, so the compiler leaves nothing of the choice.
+#![tactic(auto)]
+
 ghost use Rattle.std.specs.Prelude.{◌≡◌, cond, take};
 ghost use Rattle.array_lanewise.specs.Lanewise.{unaries, unaries8, unaries16, unaries32, binaries, binaries16, binaries32, unary_of, binary_of};
 

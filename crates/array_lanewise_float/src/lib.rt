@@ -1,4 +1,6 @@
 // A float lane operation by its number, on patterns, as `array_lanewise` has it of integer lanes.
+#![tactic(auto)]
+
 ghost use Rattle.std.specs.Prelude.{◌≡◌};
 ghost use Rattle.std.specs.Float.{binary32, binary64};
 ghost use Rattle.array_lanewise_float.specs.LanewiseFloat.{float_unary_of, float_binary_of};

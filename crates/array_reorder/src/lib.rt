@@ -1,4 +1,6 @@
 // The bytes of vectors in another order, over arrays: what swizzle and shuffle share.
+#![tactic(auto)]
+
 ghost use Rattle.std.specs.Prelude.{◌≡◌, ◌++◌, map, ◌≤◌, ◌%◌, get_or, take};
 ghost use Rattle.std.proofs.Math.Seq.{paste};
 ghost use Rattle.standard.specs.Integer.{imin_u};

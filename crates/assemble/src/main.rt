@@ -1,5 +1,7 @@
 // The program `assemble`: reads the text of a step list from standard input and writes the list to standard output, or to standard error which line stands for
 // no step, and why.
+#![tactic(auto)]
+
 use libc::{STDERR_FILENO, STDOUT_FILENO};
 use program_status::STATUS_FILENO;
 

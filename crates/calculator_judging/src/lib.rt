@@ -1,4 +1,6 @@
 // Judging a step: refusals 2 to 6 (document 01: "Checked in the order 1 to 7"). Each test says what the later tests say where it passes.
+#![tactic(auto)]
+
 ghost use Rattle.std.specs.Prelude.{◌≡◌, ltb, leb, eqb};
 ghost use Rattle.standard.specs.Instruction.{kind_number};
 ghost use Rattle.standard.specs.Refusal.{legal};

@@ -1,5 +1,7 @@
 // What a run is asked for, before any step: judging the limit, the list's length and the place to take up from, where each test says what the later tests say
 // where it passes; where the run stops, and how.
+#![tactic(auto)]
+
 ghost use Rattle.std.specs.Prelude.{◌≡◌, ◌+◌, ◌/◌, min, leb, ltb, cond};
 ghost use Rattle.calculator_rules.specs.Definition.{unless, whole_steps, list_refusal, ended, paused};
 ghost use Rattle.calculator_limits.specs.Outcome.{outcome_of};

@@ -1,4 +1,6 @@
 // The numbers beside the registers: each is "the number of the step that last wrote it in this run, 1 to 256, or 0 if none" (document 02, order 1).
+#![tactic(auto)]
+
 ghost use Rattle.std.specs.Prelude.{◌≡◌, cond, suc, ◌%◌, eqb, replicate, set};
 ghost use Rattle.calculator_rules.specs.Definition.{destination};
 ghost use Rattle.calculator_rules.specs.Shape.{profile_of};

@@ -1,4 +1,6 @@
 // An operation by the standard's number, lane by lane: a function for each family, by the methods of the vector.
+#![tactic(auto)]
+
 pub mod extract;
 pub mod given;
 pub mod replace;

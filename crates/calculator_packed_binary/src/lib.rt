@@ -1,4 +1,6 @@
 // The packed forms of two vectors: each half of a vector as one number. A step with no packed form is done lane by lane.
+#![tactic(auto)]
+
 ghost use Rattle.std.specs.Prelude.{◌≡◌};
 ghost use Rattle.standard.specs.Instruction.{instruction};
 ghost use Rattle.simd.specs.Number.{number};

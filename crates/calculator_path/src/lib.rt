@@ -1,4 +1,6 @@
 // An operation by the path that a mark asks for: "mark (0 lane by lane, anything else packed)". What it makes is the same, so no promise names the mark.
+#![tactic(auto)]
+
 mod packed_form;
 
 ghost use Rattle.std.specs.Prelude.{◌≡◌};

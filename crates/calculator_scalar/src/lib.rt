@@ -1,5 +1,7 @@
 // The calculator's scalar: "an enum whose cases carry the number itself" (document 01). A float is the number or the bits of a NaN, so every
 // pattern of bits has a value.
+#![tactic(auto)]
+
 ghost use Rattle.std.specs.Prelude.{◌≡◌, ◌%◌, ◌^◌};
 ghost use Rattle.standard.specs.Integer.{modulo};
 ghost use Rattle.standard.specs.Instruction.{i32};

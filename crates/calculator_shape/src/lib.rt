@@ -1,4 +1,6 @@
 // Deciding what a step is: the shape of its operation, by the standard's number.
+#![tactic(auto)]
+
 ghost use Rattle.std.specs.Prelude.{◌≡◌};
 ghost use Rattle.standard.specs.Instruction.{instruction};
 ghost use Rattle.calculator_rules.specs.Shape.{shape};

@@ -1,4 +1,6 @@
 // The calculator's state: by value, and as a run holds it (registers); and what the rules ask of its scalar.
+#![tactic(auto)]
+
 pub mod registers;
 
 ghost use Rattle.std.specs.Prelude.{◌≡◌, List, ℕ};

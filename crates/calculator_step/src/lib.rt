@@ -1,4 +1,6 @@
 // A step: decided, judged, and done where it is not refused. "Sources are read before the destination is written".
+#![tactic(auto)]
+
 ghost use Rattle.std.specs.Prelude.{◌≡◌, List, cond, ℕ, ◌%◌, get_or};
 ghost use Rattle.standard.specs.Instruction.{instruction};
 ghost use Rattle.calculator_rules.specs.Definition;

@@ -1,4 +1,6 @@
 // What comes of a capture, put into a lent window that holds its last bytes.
+#![tactic(auto)]
+
 ghost use Rattle.std.specs.Prelude.{ℕ, ◌+◌, ◌<◌, ◌≤◌, min, ◌≡◌, List, ◌⊎◌, length, drop};
 ghost use Rattle.std.proofs.Math.Seq.{paste};
 ghost use Rattle.capture_history.specs.State.{Stands, Kept, Taken};

@@ -1,5 +1,7 @@
 // A capture of any length that comes in pieces, as far as it has come and has been searched (specs/), what follows from one call to the next and for any run of
 // calls (proofs/), and the values that go from one to the other. No code.
+#![tactic(auto)]
+
 
 // How many bytes of a capture are taken: no position passes the end of a u64.
 pub const CAPTURE: u64 = 1152921504606846976;

@@ -1,5 +1,7 @@
 // Every meeting of a capture of any length that comes in pieces. The caller lends a window, which holds the capture's last bytes, and the marker's columns;
 // what else is to be known from one call to the next is a value of three numbers.
+#![tactic(auto)]
+
 ghost use Rattle.std.specs.Prelude.{ℕ, ◌+◌, ◌≤◌, ◌≡◌, List, [], ltb, length};
 ghost use Rattle.finder_windows.specs.Definition.{bits};
 ghost use Rattle.capture_meetings.specs.Meetings.{meetings, any, ending};

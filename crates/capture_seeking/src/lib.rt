@@ -1,4 +1,6 @@
 // The next meeting in what has come of a capture, by the marker finder's search.
+#![tactic(auto)]
+
 ghost use Rattle.std.specs.Prelude.{ℕ, List};
 ghost use Rattle.finder_columns.specs.Columns.{Columns};
 ghost use Rattle.capture_history.specs.State.{Stands, Told};

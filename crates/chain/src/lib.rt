@@ -1,5 +1,7 @@
 // Chains of shuffles (document 02, order 13): the indices of a link, and a chain judged. A link is lent as its seventeen bytes, its partner and its sixteen
 // indices, so that every value of it has a meaning.
+#![tactic(auto)]
+
 ghost use Rattle.std.specs.Prelude.{◌≡◌, cond, ltb};
 ghost use Rattle.chain.specs.Definition.{indices, all_legal, refusal};
 

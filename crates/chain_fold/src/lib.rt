@@ -1,4 +1,6 @@
 // A chain of shuffles folded into one list of sixteen indices (document 02, order 13).
+#![tactic(auto)]
+
 ghost use Rattle.std.specs.Prelude.{◌≡◌, ◌++◌, map, ◌%◌, length, get_or};
 ghost use Rattle.chain.specs.Definition.{indices, partner, refusal, counted, folded, left, OneShuffle};
 

@@ -1,4 +1,6 @@
 // A chain of shuffles applied to two vectors, link by link (document 02, order 13).
+#![tactic(auto)]
+
 ghost use Rattle.std.specs.Prelude.{◌≡◌, true, get_or};
 ghost use Rattle.standard.specs.Refusal.{legal};
 ghost use Rattle.standard.specs.Vector.{shuffle};

@@ -3,6 +3,8 @@
 // three rows of 80 halves, each half low byte first: the first row, the second row, the first row afterwards. Halves past a row's end are zero. Writes how many
 // records there were, how many vectors were compared with the single operation's, and how many records differ: in the refusal, in a half that is left, or in a
 // vector. A record that is cut short differs.
+#![tactic(auto)]
+
 ghost use Rattle.std.specs.Prelude.{◌≤◌};
 
 use libc::{STDIN_FILENO, STDOUT_FILENO};

@@ -1,5 +1,7 @@
 // Every operation called from a file. With no argument: reads requests of 128 bytes from standard input until the end, and writes an answer of 80
 // bytes for each (layout.rt says where each field stands). With the argument `check`: records (checking.rt), and a line for each set.
+#![tactic(auto)]
+
 mod answer;
 mod answering;
 mod arithmetic;

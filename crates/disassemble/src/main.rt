@@ -1,4 +1,6 @@
 // The program `disassemble`: reads a step list from standard input and writes its text to standard output; where the list is refused, a line to standard error.
+#![tactic(auto)]
+
 use libc::{STDERR_FILENO, STDOUT_FILENO};
 use program_status::STATUS_FILENO;
 

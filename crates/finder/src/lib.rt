@@ -1,5 +1,7 @@
 // The marker finder (document 02, order 5): the smallest bit position at which a marker stands and stands again one frame later. Every distance that decides or
 // is told is the count of ones of an exclusive-or of two words; columns only pass over what is far.
+#![tactic(auto)]
+
 ghost use Rattle.std.specs.Prelude.{ℕ, suc, ◌+◌, ◌*◌, ◌-◌, ◌<◌, ◌≤◌, min, ◌≡◌, false, length, take, drop};
 ghost use Rattle.std.proofs.Math.ListN as List;
 ghost use Rattle.finder_windows.specs.Definition.{binary, bits, marker_bits, window, distance, first_from, find};

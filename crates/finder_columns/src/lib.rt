@@ -1,5 +1,7 @@
 // Columns for the marker finder (document 02, order 5): five tables of 256 entries, a sum of which tells for the eight windows that begin in a byte whether
 // they are too far from the marker.
+#![tactic(auto)]
+
 ghost use Rattle.std.specs.Prelude.{ℕ, ◌+◌, ◌*◌, ◌<◌, ◌≤◌, ◌≡◌, get_or};
 ghost use Rattle.std.specs.Int.Bits.{bit_and, bit_xor};
 ghost use Rattle.standard.specs.Integer.{ipopcnt};

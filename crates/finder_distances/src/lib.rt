@@ -1,5 +1,7 @@
 // The distances of 256 windows of a buffer that follow each other, each the count of ones of an exclusive-or of two words. No turn of a loop decides anything,
 // and neighbours in an array have the same shift, so the compiler takes four at once.
+#![tactic(auto)]
+
 ghost use Rattle.std.specs.Prelude.{ℕ, ◌+◌, ◌*◌, ◌-◌, ◌/◌, ◌%◌, ◌^◌, ◌<◌, ◌≤◌, ◌≡◌, List, length, get_or, take, drop};
 ghost use Rattle.finder_windows.specs.Definition.{binary, bits};
 ghost use Rattle.finder_distances.specs.Windows.{Laid, Spread};

@@ -1,4 +1,6 @@
 // Bytes of a buffer passed over in which every window is too far from the marker, by columns. What is near is looked at by whoever asks.
+#![tactic(auto)]
+
 ghost use Rattle.std.specs.Prelude.{◌≡◌, ℕ, ◌+◌, ◌-◌, ◌*◌, ◌^◌, ◌<◌, ◌≤◌, min, true, length, slice_index};
 ghost use Rattle.finder_columns.specs.Columns.{eight, Columns};
 ghost use Rattle.finder_passing.specs.Next.{away, Far, Next};

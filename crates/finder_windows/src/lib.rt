@@ -1,5 +1,7 @@
 // What the marker finder is made of (document 02, order 5): its definition (specs/), the laws of windows and distances (proofs/), and the code that needs only
 // those: the distance of two words, what a position gives, and what is refused before the search.
+#![tactic(auto)]
+
 ghost use Rattle.std.specs.Prelude.{◌+◌, ◌≡◌, cond, ◌&&◌, ltb, leb};
 ghost use Rattle.std.proofs.Math.ListN as List;
 ghost use Rattle.finder_windows.specs.Definition.{binary, bits, marker_bits, distance, found, refused, refusal, barred};

@@ -1,5 +1,7 @@
 // The program `fold` (document 02, order 13): folds the chain of shuffles on standard input, 17 bytes a link, and writes the sixteen indices of the one shuffle
 // that does the same.
+#![tactic(auto)]
+
 ghost use Rattle.std.specs.Prelude.{◌*◌, ◌<◌, ◌≤◌, ◌≡◌, take, drop};
 ghost use Rattle.program_digits.specs.Put.{Filled};
 ghost use Rattle.fold.specs.Text.{links, links_in, text};

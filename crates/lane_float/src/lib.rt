@@ -1,5 +1,7 @@
 // Float lanes by their patterns, and a float scalar: the number itself, or the bits of a NaN. The language's own conversions between floats and
 // bits are undefined at a NaN, so a pattern is tested first; the standard moves a NaN's sign and payload along with the rest of a lane.
+#![tactic(auto)]
+
 ghost use Rattle.std.specs.Prelude.{◌≡◌, ◌||◌, not, cond, ◌/◌, ◌^◌, eqb};
 ghost use Rattle.std.specs.Float.Ieee;
 ghost use Rattle.std.specs.Float.{binary32, binary64};

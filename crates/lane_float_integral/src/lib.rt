@@ -1,6 +1,8 @@
 // Floats rounded to whole numbers, by their patterns: trunc, floor, ceil and nearest. The direction and the sign say which of three ways to take, to even, away
 // from zero or toward it, and one function for each width takes it. The fraction's digits are cut off after an addend, whose carry runs on into the field
 // of the exponent.
+#![tactic(auto)]
+
 ghost use Rattle.std.specs.Prelude.{◌≡◌};
 ghost use Rattle.std.specs.Float.{binary32, binary64};
 ghost use Rattle.std.specs.Float.Ieee.{of_bits, to_bits};

@@ -1,5 +1,7 @@
 // The least and the greatest of two float lanes by their patterns (the standard, 4.3.3 "Floating-Point Operations"; document 02, order 4). One comparison of
 // numbers decides. Where neither is below the other they are equal, and differ in their signs at most: then the signs decide, −0 below +0.
+#![tactic(auto)]
+
 ghost use Rattle.std.specs.Prelude.{◌≡◌, cond, leb};
 ghost use Rattle.std.specs.Float.{binary32, binary64};
 ghost use Rattle.std.specs.Float.Ieee.{top};

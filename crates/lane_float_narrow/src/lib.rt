@@ -1,5 +1,7 @@
 // Lanes of 32 bits and f64 to f32, rounded: convert, of four lanes side by side, and demote. Of a whole number the leading digit is moved to the top of its
 // place, where it adds one to the exponent's field.
+#![tactic(auto)]
+
 ghost use Rattle.std.specs.Prelude.{◌≡◌, map, ◌^◌, ◌<◌, nat_abs};
 ghost use Rattle.std.specs.Float.{binary32};
 ghost use Rattle.std.specs.Float.Ieee.Nearest.{closest};

@@ -1,5 +1,7 @@
 // What the conversions of float lanes share (the standard, 4.3.3 and 4.3.4; document 02, order 14). They are worked out on bits: patterns are taken apart and
 // put together with shifts, remainders, sums and comparisons.
+#![tactic(auto)]
+
 ghost use Rattle.std.specs.Prelude.{◌≡◌, ◌++◌, ◌/◌, ◌%◌, ◌^◌, nat_abs, take, replicate};
 ghost use Rattle.standard.specs.Integer.{signed};
 ghost use Rattle.lane_float_pattern.specs.Integral.{lift};

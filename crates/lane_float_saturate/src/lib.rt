@@ -1,4 +1,6 @@
 // Floats to lanes of 32 bits: cut toward zero, capped to both ends of the range, and 0 of a NaN.
+#![tactic(auto)]
+
 ghost use Rattle.std.specs.Prelude.{◌≡◌, ◌%◌, ◌^◌, map};
 ghost use Rattle.std.specs.Float.{binary32, binary64};
 ghost use Rattle.standard.specs.Convert.{trunc_sat_u, trunc_sat_s};

@@ -1,5 +1,7 @@
 // Sum, difference, product and quotient of float lanes by their patterns (the standard, 4.3.3 "Floating-Point Operations"; document 02, order 4): each result
 // is the language's own, rounded once, and a NaN goes through.
+#![tactic(auto)]
+
 ghost use Rattle.std.specs.Prelude.{◌≡◌};
 ghost use Rattle.std.specs.Float.{binary32, binary64};
 ghost use Rattle.standard.specs.Float.{fadd, fsub, fmul, fdiv};

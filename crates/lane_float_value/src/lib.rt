@@ -1,5 +1,7 @@
 // The pattern of a float that is a result. The language's conversion from floats to bits is undefined at a NaN, so `pattern32` and `pattern64` are the only
 // ways out: a NaN result is the positive quiet pattern.
+#![tactic(auto)]
+
 ghost use Rattle.std.specs.Prelude.{◌≡◌};
 ghost use Rattle.std.specs.Float.{binary32, binary64};
 ghost use Rattle.std.specs.Float.Ieee.{to_bits};

@@ -1,5 +1,7 @@
 // Lanes of 32 bits and f32 to f64, which loses nothing: convert and promote. Of a whole number the leading digit is moved to the top of its place, where it
 // adds one to the exponent's field.
+#![tactic(auto)]
+
 ghost use Rattle.std.specs.Prelude.{◌≡◌, false, ◌^◌, ◌<◌};
 ghost use Rattle.std.specs.Float.{binary64};
 ghost use Rattle.std.specs.Float.Ieee.{round, to_bits};

@@ -1,4 +1,6 @@
 // Exact results held to a range: sat_u and sat_s of the standard, and the operations that end in them.
+#![tactic(auto)]
+
 ghost use Rattle.std.specs.Prelude.{◌≡◌};
 ghost use Rattle.standard.specs.Integer.{signed, sat_u, sat_s, iadd_sat_u, iadd_sat_s, isub_sat_u, isub_sat_s, iq15mulrsat_s};
 

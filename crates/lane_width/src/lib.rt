@@ -1,4 +1,6 @@
 // Lanes of one width from those of half or twice the width: extending, narrowing, and the sums over the two halves of a lane.
+#![tactic(auto)]
+
 ghost use Rattle.std.specs.Prelude.{◌≡◌, ℕ, ◌+◌, ◌*◌, ◌/◌, ◌^◌};
 ghost use Rattle.standard.specs.Lanes.{digits, lanes};
 ghost use Rattle.standard.specs.Integer.{iadd, extend_u, extend_s, narrow_u, narrow_s};

@@ -1,5 +1,7 @@
 // The program `lanes` (document 01): "reads a step list from standard input, starts from zero registers and scalar i32 0, and writes" what the run
 // leaves: one from place 0 under limit 256 (document 02, order 12).
+#![tactic(auto)]
+
 ghost use Rattle.program_digits.specs.Put.{Filled};
 ghost use Rattle.program_listing.specs.Listing.{lanes_text};
 

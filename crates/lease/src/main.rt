@@ -1,6 +1,8 @@
 // The program `lease` (document 02, order 12): reads a step list from standard input, starts from zero registers and scalar i32 0 as `lanes` does, takes the
 // list up at a place under a limit, and again after each pause at the place reported, until it ends or is refused. A line for each call; then the listing that
 // `lanes` writes, with the counts added up.
+#![tactic(auto)]
+
 mod calls;
 
 use calls::lease;

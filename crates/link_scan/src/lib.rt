@@ -1,5 +1,7 @@
 // Captures of any length, as C and Rust are handed them: the functions of `capture_scanning`, with plain numbers in place of its values. The crate `gatulefo`
 // exports them.
+#![tactic(auto)]
+
 ghost use Rattle.std.specs.Prelude.{ℕ, ◌≤◌, ◌≡◌, List, []};
 ghost use Rattle.finder_windows.specs.Definition.{bits};
 ghost use Rattle.finder_columns.specs.Columns.{Columns};

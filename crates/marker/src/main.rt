@@ -1,5 +1,7 @@
 // The program `marker` (document 02, order 5): finds the marker of its first argument, within the tolerance of its second and with frames of as many bits as
 // its third says, in the bytes of standard input.
+#![tactic(auto)]
+
 ghost use Rattle.std.specs.Prelude.{ℕ, ◌≡◌, true, List, []};
 ghost use Rattle.finder_windows.specs.Definition.{find};
 ghost use Rattle.program_digits.specs.Put.{Filled};

@@ -1,5 +1,7 @@
 // Memory (document 01, "Memory"): lent bytes, little-endian. Numbers of 1, 2, 4, 8 and 16 bytes read and written where the bounds test allows the
 // access. A number of 2n bytes is two numbers of n bytes, low one first.
+#![tactic(auto)]
+
 ghost use Rattle.std.specs.Prelude.{◌≡◌, ◌+◌, ◌*◌, ◌^◌, ◌≤◌, length};
 ghost use Rattle.standard.specs.Memory.{number_at, with_number, load, store, stored};
 ghost use Rattle.memory_bounds.specs.Bounds.{effective};

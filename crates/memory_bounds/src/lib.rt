@@ -1,4 +1,6 @@
 // The one bounds test of memory (document 01, "Memory"), which says how far past the end an access runs (document 02, order 9).
+#![tactic(auto)]
+
 ghost use Rattle.std.specs.Prelude.{◌≡◌, ◌+◌, ◌-◌, ◌^◌, min};
 ghost use Rattle.standard.specs.Memory.{within};
 ghost use Rattle.memory_bounds.specs.Bounds.{effective, access_answer};

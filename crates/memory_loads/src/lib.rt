@@ -1,6 +1,8 @@
 // Loads (document 01, "Memory"), under the Rust's names. The two forms of each instruction, at pointer and offset and at an address, differ in the effective
 // address alone and share one private function. A lane load tests the lane, 4, before the bounds, 7. With each 7 goes the shortfall (document 02,
 // order 9).
+#![tactic(auto)]
+
 ghost use Rattle.std.specs.Prelude.{◌≡◌, ◌+◌};
 ghost use Rattle.standard.specs.Integer.{extend_s, extend_u};
 ghost use Rattle.standard.specs.Memory.{answered, load, load_splat, load_widen, load_lane};

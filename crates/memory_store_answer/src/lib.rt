@@ -1,4 +1,6 @@
 // The answer of a store (document 01, "Memory"). With each 7 goes the shortfall (document 02, order 9).
+#![tactic(auto)]
+
 ghost use Rattle.std.specs.Prelude.{◌≡◌, List, ℕ};
 ghost use Rattle.memory_access.specs.Access.{put_answer};
 ghost use Rattle.memory_store_answer.specs.StoreAnswer.{store_answer};

@@ -1,5 +1,7 @@
 // The program `mend` (document 02, order 10): reads a damaged recording from standard input and writes its blocks to standard output, each as it is or with one
 // bit put back, up to the first that can not be mended. On standard error a line for each bit put back, and one for the block at which it stopped.
+#![tactic(auto)]
+
 use libc::{STDERR_FILENO, STDOUT_FILENO};
 use program_status::STATUS_FILENO;
 use recording_mending::mend;

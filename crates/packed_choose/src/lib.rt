@@ -1,5 +1,7 @@
 // A packed form by its number, on a half, as the crate `array_lanewise` has it for one lane: so that what holds of both halves of a vector is shown once for
 // all forms. The number is a constant wherever a form is asked for.
+#![tactic(auto)]
+
 ghost use Rattle.std.specs.Prelude.{◌≡◌};
 ghost use Rattle.packed_choose.specs.Choose.{half_unary_of, half_binary_of};
 

@@ -1,5 +1,7 @@
 // Equal, "all ones or all zeros" in each lane (document 01, "Lane rules"; the standard, 4.3.2 "ieq"), on a whole half. The lanes of a ^ b that are 0
 // are found by their top bits, which are brought down to the lanes' lowest bits and spread over the lanes by a product.
+#![tactic(auto)]
+
 ghost use Rattle.std.specs.Prelude.{◌≡◌};
 ghost use Rattle.standard.specs.Integer.{ieq};
 ghost use Rattle.packed_half.specs.Half.{half_unary, half_binary, zero_top};

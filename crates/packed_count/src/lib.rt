@@ -1,5 +1,7 @@
 // "popcnt counts the one bits of each 8-bit lane" (document 01, "Lane rules"; the standard, 4.3.2 "ipopcnt"), on a whole half: the counts of each two
 // bits, of each four, of each eight.
+#![tactic(auto)]
+
 ghost use Rattle.std.specs.Prelude.{◌≡◌};
 ghost use Rattle.standard.specs.Integer.{ipopcnt};
 ghost use Rattle.packed_half.specs.Half.{half_unary};

@@ -1,5 +1,7 @@
 // What is asked of all lanes of a half at once: any_true, all-true and bitmask (document 01, "Lane rules"; the standard, 4.4.3). The bitmask alone takes
 // the half apart into its lanes (document 02, order 7).
+#![tactic(auto)]
+
 ghost use Rattle.std.specs.Prelude.{◌≡◌, cond};
 ghost use Rattle.standard.specs.Vector.{any_true};
 ghost use Rattle.packed_half.specs.Half.{half_all_true, half_bitmask};

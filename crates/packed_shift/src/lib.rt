@@ -1,5 +1,7 @@
 // Shifts of each lane, "the count is taken modulo the lane width" (document 01, "Lane rules"; the standard, 4.3.2 "ishl", "ishr_u"), on a whole half.
 // The bits that would reach another lane are masked away. The mask is the lowest bit of each lane times the bits that one lane keeps.
+#![tactic(auto)]
+
 ghost use Rattle.std.specs.Prelude.{◌≡◌};
 ghost use Rattle.standard.specs.Integer.{ishl, ishr_u};
 ghost use Rattle.packed_half.specs.Half.{half_unary};

@@ -1,5 +1,7 @@
 // The packed forms of whole vectors: each half as one number, with the promise of the lane-by-lane operation of the same name (document 01, "The
 // calculator (added)").
+#![tactic(auto)]
+
 ghost use Rattle.std.specs.Prelude.{◌≡◌, cond};
 ghost use Rattle.standard.specs.Integer.{iadd, isub, ineg, ieq, iavgr_u, ipopcnt, ishl, ishr_u};
 ghost use Rattle.standard.specs.Lanes.{unary, binary};

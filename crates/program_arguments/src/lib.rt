@@ -1,4 +1,6 @@
 // The arguments of programs: numbers spelt in ASCII.
+#![tactic(auto)]
+
 ghost use Rattle.std.specs.Prelude.{◌≤◌, ◌≡◌};
 ghost use Rattle.program_arguments.specs.Arguments.{digit, numeral, fitting, decimal, eight_hex_digits};
 ghost use Rattle.program_arguments.specs.Numeral.{numeral_of};

@@ -1,4 +1,6 @@
 // A whole text read: the step list that it stands for, or its first line that stands for no step, and what the program `assemble` writes.
+#![tactic(auto)]
+
 ghost use Rattle.std.specs.Prelude.{◌≤◌, ◌≡◌};
 ghost use Rattle.program_answer.specs.Tells.{Tells};
 ghost use Rattle.program_digits.specs.Put.{Wrote};

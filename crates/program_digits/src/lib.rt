@@ -1,5 +1,7 @@
 // Numbers, bytes and text put into a lent slice from a place on. Each function answers the place after what it put, and leaves out what has no room, so that
 // functions that put one text after another need no room themselves.
+#![tactic(auto)]
+
 ghost use Rattle.std.specs.Prelude.{◌+◌, ◌-◌, ◌<◌, ◌≤◌, min, ◌≡◌, ◌++◌, drop};
 ghost use Rattle.program_digits.specs.Codes.{codes};
 ghost use Rattle.program_digits.specs.Digits.{glyph, digits, places, decimal, two_decimals, hex, hex_bytes};

@@ -1,4 +1,6 @@
 // A whole step list written as text, and what the program `disassemble` writes.
+#![tactic(auto)]
+
 ghost use Rattle.std.specs.Prelude.{◌-◌, ◌+◌, ◌/◌, ◌≤◌, ◌≡◌, length};
 ghost use Rattle.program_answer.specs.Tells.{Tells};
 ghost use Rattle.program_digits.specs.Put.{Wrote};

@@ -1,4 +1,6 @@
 // One field of a step, read where it stands in a line: a register, a lane, a mark, or a byte.
+#![tactic(auto)]
+
 ghost use Rattle.std.specs.Prelude.{◌≤◌, ◌≡◌, length, drop};
 ghost use Rattle.program_arguments.specs.Arguments.{digit, decimal};
 ghost use Rattle.program_fields.specs.Fields.{between, number_in, as_byte, find};

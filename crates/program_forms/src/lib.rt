@@ -1,4 +1,6 @@
 // What an operation's line has after its name.
+#![tactic(auto)]
+
 ghost use Rattle.std.specs.Prelude.{◌≡◌};
 ghost use Rattle.program_forms.specs.Forms.{of_registers, form_of, form};
 ghost use Rattle.program_forms.specs.Takes.{takes_of};

@@ -1,4 +1,6 @@
 // Standard input, as far as it decides anything.
+#![tactic(auto)]
+
 ghost use Rattle.io.specs.Counts.{IsPrefixLen};
 
 use libc::STDIN_FILENO;

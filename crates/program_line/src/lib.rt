@@ -1,4 +1,6 @@
 // One line of the text of a step list, read: the step that it stands for, or why it stands for none.
+#![tactic(auto)]
+
 ghost use Rattle.std.specs.Prelude.{◌+◌, ◌≤◌, ◌<◌, ◌≡◌, length, drop};
 ghost use Rattle.program_words.specs.Cut.{skip};
 ghost use Rattle.program_fields.specs.Values.{field_of};

@@ -1,4 +1,6 @@
 // The listing of document 01 with the numbers of document 02's order 1: fixed byte strings around fields of digits, put into a lent buffer.
+#![tactic(auto)]
+
 ghost use Rattle.std.specs.Prelude.{◌≡◌, ◌++◌, map};
 ghost use Rattle.standard.specs.Lanes;
 ghost use Rattle.calculator_scalar.specs.Scalar.{kind_of, bits_of};

@@ -1,4 +1,6 @@
 // The names of the operations, both ways: the number of a name, and the name of a number.
+#![tactic(auto)]
+
 ghost use Rattle.std.specs.Prelude.{◌≡◌};
 ghost use Rattle.program_digits.specs.Put.{Wrote};
 ghost use Rattle.program_names.specs.Names.{name, number};

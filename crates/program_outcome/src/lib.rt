@@ -1,4 +1,6 @@
 // What a step of a field recording left, as a line: the vector written, the scalar and the refusal. Of a record of 64 bytes it is the second half.
+#![tactic(auto)]
+
 ghost use Rattle.std.specs.Prelude.{◌≡◌};
 ghost use Rattle.calculator_rules.specs.Definition.{bytes};
 ghost use Rattle.program_digits.specs.Digits.{hex_bytes};

@@ -1,4 +1,6 @@
 // A record of a field recording as text.
+#![tactic(auto)]
+
 ghost use Rattle.std.specs.Prelude.{◌≡◌, length};
 ghost use Rattle.program_digits.specs.Put.{Wrote};
 ghost use Rattle.program_record.specs.Record.{difference, head, record_text};

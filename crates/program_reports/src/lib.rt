@@ -1,4 +1,6 @@
 // What `marker` and `fold` write: each function puts all lines of an answer at the start of a lent buffer, and says how many bytes they are.
+#![tactic(auto)]
+
 ghost use Rattle.std.specs.Prelude.{◌≡◌};
 ghost use Rattle.finder_windows.specs.Answer as windows;
 ghost use Rattle.program_digits.specs.Put.{Wrote, Filled};

@@ -1,4 +1,6 @@
 // All that the program `show` writes of a file.
+#![tactic(auto)]
+
 ghost use Rattle.std.specs.Prelude.{◌+◌, ◌*◌, ◌^◌, ◌≤◌, ◌≡◌, ◌++◌, length};
 ghost use Rattle.calculator_rules.specs.Definition.{start};
 ghost use Rattle.recording_fields.specs.Definition.{trace};

@@ -1,5 +1,7 @@
 // The status of a program. A program of this language has none of its own, so it writes a digit to a descriptor that `./program` gives it. One that has not
 // answered writes none.
+#![tactic(auto)]
+
 ghost use Rattle.std.specs.Prelude.{◌≡◌, true, cond};
 ghost use Rattle.program_digits.specs.Codes.{codes};
 ghost use Rattle.program_status.specs.Status.{Ends, Good};

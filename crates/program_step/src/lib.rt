@@ -1,4 +1,6 @@
 // One step, written as a line of text.
+#![tactic(auto)]
+
 ghost use Rattle.std.specs.Prelude.{◌+◌, ◌≤◌, ◌≡◌};
 ghost use Rattle.program_digits.specs.Put.{Wrote};
 ghost use Rattle.program_fields.specs.Values.{field_of};

@@ -1,4 +1,6 @@
 // A table that is a text, a line for each entry: which line a word is, and the line of a number.
+#![tactic(auto)]
+
 ghost use Rattle.std.specs.Prelude.{◌≡◌, [], get_or};
 ghost use Rattle.program_digits.specs.Put.{Wrote};
 ghost use Rattle.program_words.specs.Cut.{newline, pieces};

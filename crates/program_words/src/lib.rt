@@ -1,4 +1,6 @@
 // A text cut into lines, and a line into words: where a stretch of characters ends, and where a comment begins.
+#![tactic(auto)]
+
 ghost use Rattle.std.specs.Prelude.{◌+◌, ◌≡◌, length, drop};
 ghost use Rattle.program_words.specs.Cut.{before, comment, statement, newline, pieces};
 ghost use Rattle.program_words.specs.Stops.{stops};

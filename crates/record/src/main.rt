@@ -1,5 +1,7 @@
 // The program `record` (document 02, order 8): reads a step list from standard input, runs it from zero registers and scalar i32 0, and writes its recording to
 // standard output. Where there is none it writes a line to standard error that says why.
+#![tactic(auto)]
+
 use libc::{STDERR_FILENO, STDOUT_FILENO};
 use program_status::STATUS_FILENO;
 use recording::recorder::{Recorded, record};

@@ -1,4 +1,6 @@
 // A record of a field recording beside what the definition gives for its step (document 02, order 8), as four words.
+#![tactic(auto)]
+
 ghost use Rattle.std.specs.Prelude.{suc, ◌+◌, ◌*◌, ◌^◌, ◌≤◌, ◌≡◌, length, take, drop};
 ghost use Rattle.standard.specs.Lanes.{digits};
 ghost use Rattle.recording_fields.specs.Definition.{trace, differs, compared};

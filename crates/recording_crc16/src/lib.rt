@@ -1,4 +1,6 @@
 // The check of a field recording (document 02, order 8), a byte at a time.
+#![tactic(auto)]
+
 ghost use Rattle.std.specs.Prelude.{◌+◌, ◌*◌, ◌≡◌};
 ghost use Rattle.recording_crc16.specs.Remainder.{run, bits, check};
 ghost use Rattle.recording_crc16.specs.Powers.{times};

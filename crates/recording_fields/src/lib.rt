@@ -1,4 +1,6 @@
 // A record of a field recording (document 02, order 8): the step, and the trace that it leaves, written as four words.
+#![tactic(auto)]
+
 ghost use Rattle.std.specs.Prelude.{◌+◌, ◌*◌, ◌^◌, ◌≤◌, ◌≡◌, ◌∷◌, length, replicate};
 ghost use Rattle.standard.specs.Lanes.{digits};
 ghost use Rattle.standard.specs.Memory.{with_number};

@@ -1,4 +1,6 @@
 // The layout of a field recording (document 02, order 8): the length of a file, and the checks of its blocks.
+#![tactic(auto)]
+
 ghost use Rattle.std.specs.Prelude.{◌≡◌};
 ghost use Rattle.recording_layout.specs.Definition.{each_below, whole_blocks, blocks, right_block};
 

@@ -1,4 +1,6 @@
 // Judging a file: refusals 13, 14 and 15, in that order over the whole file (document 02, order 8).
+#![tactic(auto)]
+
 ghost use Rattle.std.specs.Prelude.{◌+◌, ◌*◌, ◌≤◌, ◌<◌, ◌≡◌, length};
 ghost use Rattle.recording_layout.specs.Definition.{each_below, blocks, count, record_at_laid, count_laid, block_laid, laid_block, records, judged};
 ghost use Rattle.recording_layout_judge.specs.Judged.{judged_of};

@@ -1,4 +1,6 @@
 // A record of a field recording by the rules of the layout (document 02, order 8).
+#![tactic(auto)]
+
 ghost use Rattle.std.specs.Prelude.{◌≡◌, ◌&&◌, eqb, length};
 ghost use Rattle.recording_layout.specs.Definition.{all_zero, record_laid};
 

@@ -1,4 +1,6 @@
 // Mending recordings (document 02, order 10): blocks whose check is wrong by one flipped bit.
+#![tactic(auto)]
+
 ghost use Rattle.std.specs.Prelude.{◌-◌, ◌%◌, ◌^◌, ◌≤◌, ◌≡◌, cond, ltb, length};
 ghost use Rattle.recording_layout.specs.Definition.{blocks};
 ghost use Rattle.recording_mending_rules.specs.Definition.{flipped, refused, done, mending};

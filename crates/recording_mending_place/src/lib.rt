@@ -1,4 +1,6 @@
 // What becomes of one block of a recording (document 02, order 10): which bit is put back, none, or that no bit mends it.
+#![tactic(auto)]
+
 ghost use Rattle.std.specs.Prelude.{◌≡◌, cond, eqb, length};
 ghost use Rattle.recording_crc16.specs.Remainder.{shift};
 ghost use Rattle.recording_mending_rules.specs.Definition.{mended};

@@ -1,4 +1,6 @@
 // Records that stand in the blocks of a buffer become a file (document 02, order 8).
+#![tactic(auto)]
+
 ghost use Rattle.std.specs.Prelude.{◌*◌, ◌≤◌, ◌<◌, min, ◌≡◌, cond, ◌++◌, ltb, length, take, drop};
 ghost use Rattle.recording_packing.specs.Definition.{packed_block, packed, blocks_for, fits, standing, sealed_into};
 

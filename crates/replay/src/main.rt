@@ -1,5 +1,7 @@
 // The program `replay` (document 02, order 8): reads a recording from standard input, and writes whether every record is what the calculator's definition gives
 // for its step, or which is the first that is not, counted from 1, or why the file is no recording.
+#![tactic(auto)]
+
 ghost use Rattle.recording_rules.specs.Definition as records;
 ghost use Rattle.program_digits.specs.Put.{Filled};
 ghost use Rattle.program_recordings.specs.Lines.{replay};

@@ -1,5 +1,7 @@
 // i8x16 add, exclusive-or and popcnt over lent rows of vectors, written over the first row (document 02, order 6). Here a row is of 64-bit halves: a vector is
 // two of them, the low half first. No lane reaches from one half into the other, so a row is done half by half.
+#![tactic(auto)]
+
 ghost use Rattle.std.specs.Prelude.{◌≡◌, map, length};
 ghost use Rattle.standard.specs.Integer.{iadd, ixor, ipopcnt};
 ghost use Rattle.standard.specs.Lanes.{unary, binary, zip};

@@ -1,6 +1,8 @@
 // The program `scan`: every position of the capture on standard input at which the marker of its first argument is met, within the tolerance of its second and
 // with frames of as many bits as its third says. With two arguments more, the positions of one segment: standard input is the capture from the byte of the
 // fourth argument on, and the positions are those that begin in as many bytes as the fifth says.
+#![tactic(auto)]
+
 ghost use Rattle.std.specs.Prelude.{◌≤◌, ◌≡◌, length};
 ghost use Rattle.io.specs.Counts.{IsPrefixLen};
 

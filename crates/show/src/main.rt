@@ -1,5 +1,7 @@
 // The program `show`: reads a recording (document 02, order 8) from standard input and writes it as text: each record's number, its step, what the step left,
 // and where that is not what the calculator's definition gives, what it gives; then the line that `replay` writes.
+#![tactic(auto)]
+
 use libc::{STDERR_FILENO, STDOUT_FILENO};
 use program_status::STATUS_FILENO;
 

@@ -1,5 +1,7 @@
 // WebAssembly's 128-bit vectors: `V128` and the operations on vectors of wasmi_core's simd.rs, under their names, in files by family. Here: the vector, its
 // lanes as arrays and back, and the loops over lanes.
+#![tactic(auto)]
+
 pub mod answer;
 pub mod arithmetic;
 pub mod bitwise;
