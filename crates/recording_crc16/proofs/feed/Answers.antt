@@ -9,17 +9,13 @@ use borrow.Author.Rules.{rules}
 use Rattle.recording_crc16.specs.Remainder.{◌⊕◌, run, bits}
 use Rattle.recording_crc16.specs.Powers.{times}
 use Rattle.recording_crc16.proofs.Bytes.{run_top}
-use Rattle.recording_crc16.proofs.feed.Statement.{statement}
-use Rattle.recording_crc16.proofs.feed.Tie as tie
+use Rattle.recording_crc16.proofs.feed.Goals as goal
 
 index : (r x : ℕ) → r < 65536 → x < 256 → bit_xor (r / 256) x < 256
 index r x hr hx = xor_lt 8 (r / 256) x (omega arith) hx
 
-cast-n : tie.Need-overflow-cast-n
-cast-n c = omega (arith, index c.args.r c.args.x (search rules) (search rules))
-
-eight-requires : tie.Need-eight-requires
-eight-requires c κs = search rules
+pub overflow_cast-n-2 : goal.overflow_cast-n-2
+overflow_cast-n-2 c = omega (arith, index c.args.r c.args.x (search rules) (search rules))
 
 by_top : (r x e : ℕ) → r < 65536 → x < 256 → e ≡ times 8 (bit_xor (r / 256) x * 256) → bit_xor e (r * 256 % 65536) ≡ run r (bits 8 x)
 unfolding ◌⊕◌
@@ -28,8 +24,5 @@ by_top r x e hr hx p =
     mod-pow-add (r * 256) 8 8 ∙ ap₂ (λ (a b : ℕ). a % 256 * 256 + b) (shl-shr r 8) (mul-mod_left r 256) ∙ add-zero (r % 256 * 256) in
     ap₂ bit_xor p up ∙ sym (run_top r x hr hx)
 
-returns : tie.Need-returns
-returns c = by_top c.before.args.r c.before.args.x c.eight.result (search rules) (search rules) c.eight.ensures
-
-pub feed-spec : {M : Type 1} → statement M
-feed-spec = tie.close (tie.spec cast-n eight-requires returns)
+pub returns : goal.returns
+returns c = by_top c.args.r c.args.x c.eight.result (search rules) (search rules) c.eight.ensures

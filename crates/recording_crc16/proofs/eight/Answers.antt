@@ -10,8 +10,7 @@ use lib.Dec.{T, eqb, eqb→eq}
 use borrow.Author.Rules.{rules}
 use Rattle.recording_crc16.specs.Remainder.{◌⊕◌, shift}
 use Rattle.recording_crc16.specs.Powers.{times}
-use Rattle.recording_crc16.proofs.eight.Statement.{statement}
-use Rattle.recording_crc16.proofs.eight.Tie as tie
+use Rattle.recording_crc16.proofs.eight.Goals as goal
 
 -- the test of each number below n
 each : ℕ → (ℕ → Bool) → Bool
@@ -47,12 +46,9 @@ all_right : T (each 256 is_right)
 unfolding each is_right made times shift ◌⊕◌
 all_right = tt
 
-returns : tie.Need-returns
+pub returns : goal.returns
 unfolding is_right made
 returns c = eqb→eq (made c.args.n) (times 8 (c.args.n * 256)) (at 256 is_right all_right c.args.n (search rules))
 
-cast-x : tie.Need-overflow-cast-x
-cast-x c = omega (arith, xor_lt 8 c.args.n (c.args.n / 16) (search rules) (omega arith))
-
-pub eight-spec : {M : Type 1} → statement M
-eight-spec = tie.close (tie.spec cast-x returns)
+pub overflow_cast-x : goal.overflow_cast-x
+overflow_cast-x c = omega (arith, xor_lt 8 c.args.n (c.args.n / 16) (search rules) (omega arith))
