@@ -1,0 +1,7 @@
+-- `calculator_rules::fields::byte` meets its contract: past the end there is nothing. Assumes nothing.
+use mathlib.Core.Path.{sym}
+use lib.ListN.{get_or-eq_default}
+use Rattle.calculator_rules.proofs.fields.byte.Goals as goal
+
+pub returns-else-i-s : goal.returns-else-i-s
+returns-else-i-s c = sym (get_or-eq_default c.args.s.now 0 c.if-i-s.false)
