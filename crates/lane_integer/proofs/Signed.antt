@@ -10,6 +10,7 @@ use Rattle.standard.specs.Integer.{signed, modulo}
 
 -- x - m is negative where x is below m
 pub minus_below : (x m : ℕ) → x < m → pos x -ℤ pos m ≡ negsuc (m - suc x)
+minus_below x zero h = elim h [ ]
 minus_below x (suc m) h = rw (lt-ltb x (suc m) h)
 
 -- and is the difference where it is not

@@ -1,0 +1,10 @@
+-- `lane_integer::arithmetic::abs64` meets its contract, by the law of the absolute value at 64 bits. Assumes nothing.
+use Rattle.std.proofs.Common.{true, false, ◌∙◌, w64}
+use Rattle.lane_integer.proofs.Negation.{abs_is}
+use Rattle.lane_integer.proofs.arithmetic.abs64.Goals as goal
+
+pub returns-then-signed64-lt0 : goal.returns-then-signed64-lt0
+returns-then-signed64-lt0 c = c.neg64.ensures ∙ abs_is w64 _ c.ranges.x c.signed64.ensures true c.if-signed64-lt0.true
+
+pub returns-else-signed64-lt0 : goal.returns-else-signed64-lt0
+returns-else-signed64-lt0 c = abs_is w64 _ c.ranges.x c.signed64.ensures false c.if-signed64-lt0.false
