@@ -5,8 +5,7 @@ use Prim.Native.Nat.{ℕ, zero, suc, ◌/◌, ◌<◌}
 use native.Mathlib.Omega.{arith}
 use lib.Dec.{T, eqb}
 use lib.Ieee.{binary64, lt, of_bits, nan_bits}
-use Rattle.lane_float.proofs.clear64.Statement.{statement}
-use Rattle.lane_float.proofs.clear64.Tie as tie
+use Rattle.lane_float.proofs.clear64.Goals as goal
 
 number : (b : ℕ) → b < 2 → T (not (nan_bits binary64 b))
 unfolding nan_bits
@@ -20,14 +19,11 @@ told zero h = refl
 told (suc zero) h = refl
 told (suc (suc b)) h = absurd (omega arith)
 
-float-from-bits-result : tie.Need-float-from-bits-result
-float-from-bits-result c = number (c.args.bits / 0x8000000000000000) (omega arith)
+pub float_from_bits-result : goal.float_from_bits-result
+float_from_bits-result c = number (c.args.bits / 0x8000000000000000) (omega arith)
 
-float-from-bits-result-2 : tie.Need-float-from-bits-result-2
-float-from-bits-result-2 c = number 1 (omega arith)
+pub float_from_bits-result-2 : goal.float_from_bits-result-2
+float_from_bits-result-2 c = number 1 (omega arith)
 
-returns : tie.Need-returns
+pub returns : goal.returns
 returns c = told (c.args.bits / 0x8000000000000000) (omega arith)
-
-pub clear64-spec : {M : Type 1} → statement M
-clear64-spec = tie.close (tie.spec float-from-bits-result float-from-bits-result-2 returns)

@@ -5,19 +5,15 @@ use native.Mathlib.Omega.{arith}
 use lib.Ieee.{binary64}
 use Rattle.lane_float.proofs.Carry.{carries}
 use Rattle.lane_float.proofs.Together.{set_sign}
-use Rattle.lane_float.proofs.carry_signed64.Statement.{statement}
-use Rattle.lane_float.proofs.carry_signed64.Tie as tie
+use Rattle.lane_float.proofs.carry_signed64.Goals as goal
 
 less : (m : ℕ) → 0x8000000000000000 + m - 0x7FF0000000000001 ≡ m + 0xFFFFFFFFFFFFF
 less m = omega arith
 
-sub-result : tie.Need-overflow-sub-result
-sub-result c = let h = set_sign binary64 c.args.bits c.ranges.bits.fits in omega (arith, h)
+pub overflow_sub-result : goal.overflow_sub-result
+overflow_sub-result c = let h = set_sign binary64 c.args.bits c.ranges.bits.fits in omega (arith, h)
 
-returns : tie.Need-returns
+pub returns : goal.returns
 returns c =
     ap (λ (x : ℕ). (x - 0x7FF0000000000001) / 0x8000000000000000) (set_sign binary64 c.args.bits c.ranges.bits.fits)
     ∙ ap (λ (x : ℕ). x / 0x8000000000000000) (less (c.args.bits % 0x8000000000000000)) ∙ carries c.args.bits
-
-pub carry-signed64-spec : {M : Type 1} → statement M
-carry-signed64-spec = tie.close (tie.spec sub-result returns)

@@ -8,8 +8,7 @@ use lib.Dec.{ltb}
 use lib.Ieee.{binary32}
 use lib.Ieee.Bits.{nan_bits_above}
 use Rattle.lane_float.proofs.Together.{set_sign}
-use Rattle.lane_float.proofs.nan_signed32.Statement.{statement}
-use Rattle.lane_float.proofs.nan_signed32.Tie as tie
+use Rattle.lane_float.proofs.nan_signed32.Goals as goal
 
 past : (m : ℕ) → ltb 0xFF800000 (0x80000000 + m) ≡ ltb 0x7F800000 m
 past m = pick (ltb 0x7F800000 m) refl
@@ -18,10 +17,7 @@ past m = pick (ltb 0x7F800000 m) refl
     pick true e = lt-ltb 0xFF800000 (0x80000000 + m) (omega (arith, ltb-true 0x7F800000 m e))
     pick false e = le-ltb 0xFF800000 (0x80000000 + m) (omega (arith, ltb-false 0x7F800000 m e))
 
-returns : tie.Need-returns
+pub returns : goal.returns
 returns c =
     ap (ltb 0xFF800000) (set_sign binary32 c.args.bits c.ranges.bits.fits) ∙ past (c.args.bits % 0x80000000)
     ∙ sym (nan_bits_above binary32 c.args.bits)
-
-pub nan-signed32-spec : {M : Type 1} → statement M
-nan-signed32-spec = tie.close (tie.spec returns)
