@@ -20,6 +20,7 @@ use Rattle.packed_half.specs.Half.{sign_bit}
 
 -- the sign bit of a lane of 1 + v bits is its top bit
 below_zero : (x m : ℕ) → x < m → non_neg (pos x -ℤ pos m) ≡ false
+below_zero x zero h = elim h [ ]
 below_zero x (suc m) h = rw (lt-ltb x (suc m) h)
 
 pub top_sign : (v p : ℕ) → p < 2 ^ (1 + v) → p / 2 ^ v ≡ sign_bit (1 + v) p
