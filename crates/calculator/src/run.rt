@@ -11,7 +11,7 @@ use calculator_state::{State, take_up};
 use calculator_step::step;
 
 // What a run leaves: the state, the steps done, and how it stopped.
-#[derive(Drop)]
+#[derive(Clone, Copy)]
 pub struct Ending {
     pub state: State,
     pub done: usize,
@@ -19,7 +19,7 @@ pub struct Ending {
 }
 
 // What a run leaves beside its words and their writers.
-#[derive(Drop)]
+#[derive(Clone, Copy)]
 pub struct Stopped {
     pub scalar: Scalar,
     pub done: usize,

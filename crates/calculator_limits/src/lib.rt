@@ -16,7 +16,7 @@ pub const LIMIT: u8 = 17;
 pub const PLACE: u8 = 19;
 
 // How a run stops (document 02, order 12).
-#[derive(Drop)]
+#[derive(Clone, Copy)]
 pub enum Outcome {
     // "a list with no step left has ended"
     Ended,

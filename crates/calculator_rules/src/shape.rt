@@ -4,7 +4,7 @@ ghost use Rattle.standard.specs.Instruction.{kind_number};
 ghost use Rattle.calculator_rules.specs.Shape.{the_kind};
 
 // The kinds of the scalar.
-#[derive(Drop)]
+#[derive(Clone, Copy)]
 pub enum Kind {
     I32,
     I64,
@@ -27,7 +27,7 @@ impl Kind {
 }
 
 // What an operation takes and gives, with the lane count and the kind of the scalar that it reads.
-#[derive(Drop)]
+#[derive(Clone, Copy)]
 pub enum Shape {
     // no calculator step
     None,

@@ -13,7 +13,7 @@ use calculator_rules::shape::Kind;
 use lane_float::{F32, F64};
 use lane_integer::reinterpret::{signed8, signed16, signed32, unsigned32, unsigned64};
 
-#[derive(Drop)]
+#[derive(Clone, Copy)]
 pub enum Scalar {
     I32(i32),
     I64(i64),

@@ -16,7 +16,7 @@ use calculator_scalar::Scalar;
 use lane_integer::reinterpret::unsigned32;
 use simd::V128;
 
-#[derive(Drop)]
+#[derive(Clone, Copy)]
 pub struct State {
     pub registers: [V128; 16],
     // Beside each register the number of the step that wrote it.

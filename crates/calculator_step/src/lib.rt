@@ -27,7 +27,7 @@ use calculator_state::{count, kind};
 use simd::V128;
 
 // The scalar after a step, the number of its refusal, 0 for none, and "the 16-byte vector written (zeros if none)" (document 02, order 8).
-#[derive(Drop)]
+#[derive(Clone, Copy)]
 pub struct Stepped {
     pub scalar: Scalar,
     pub refused: u8,

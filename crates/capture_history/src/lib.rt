@@ -7,7 +7,7 @@
 pub const CAPTURE: u64 = 1152921504606846976;
 
 // How far a capture has come.
-#[derive(Drop)]
+#[derive(Clone, Copy)]
 pub struct Scan {
     // How many of its bytes lie before the window.
     pub before: u64,
@@ -18,14 +18,14 @@ pub struct Scan {
 }
 
 // The next meeting, with its position in the capture and both distances; or that nothing more is met in what has come.
-#[derive(Drop)]
+#[derive(Clone, Copy)]
 pub enum Next {
     Met(u64, u32, u32, Scan),
     More(Scan),
 }
 
 // How many bytes of a piece were taken.
-#[derive(Drop)]
+#[derive(Clone, Copy)]
 pub struct Fed {
     pub used: usize,
     pub scan: Scan,

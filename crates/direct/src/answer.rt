@@ -19,7 +19,7 @@ const IS_SCALAR: u8 = 2;
 
 const IS_BOOL: u8 = 3;
 
-#[derive(Drop)]
+#[derive(Clone, Copy)]
 pub struct Answer {
     pub refusal: u8,
     pub result: u8,

@@ -5,7 +5,7 @@ ghost use Rattle.std.proofs.Math.ListN;
 use crate::layout::*;
 use simd::V128;
 
-#[derive(Drop)]
+#[derive(Clone, Copy)]
 pub struct Request {
     pub function: u16,
     pub lane: u8,

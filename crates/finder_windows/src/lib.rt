@@ -20,7 +20,7 @@ const BUFFER: u8 = 10;
 pub const NONE: u8 = 11;
 
 // Where the marker stands, with the distances of the window there and of the one a frame later; or the number of a refusal.
-#[derive(Drop)]
+#[derive(Clone, Copy)]
 pub enum Answer {
     Found(usize, u32, u32),
     Refused(u8),

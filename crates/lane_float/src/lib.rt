@@ -164,13 +164,13 @@ pub fn fabs64(x: u64) -> u64
     x % 0x8000_0000_0000_0000
 }
 
-#[derive(Drop)]
+#[derive(Clone, Copy)]
 pub enum F32 {
     Number(f32),
     Nan(u32),
 }
 
-#[derive(Drop)]
+#[derive(Clone, Copy)]
 pub enum F64 {
     Number(f64),
     Nan(u64),

@@ -17,7 +17,7 @@ use simd::answer::{I32Answer, I64Answer, U32Answer, VectorAnswer};
 
 // The bits of a lane; or the number of a refusal, 4, and the bits are 0.
 #[repr(C)]
-#[derive(Drop)]
+#[derive(Clone, Copy)]
 pub struct BitsOrRefusal {
     pub bits: u64,
     pub refused: u8,
@@ -25,7 +25,7 @@ pub struct BitsOrRefusal {
 
 // A vector; or the number of a refusal, 4 or 5, and the vector is 0.
 #[repr(C)]
-#[derive(Drop)]
+#[derive(Clone, Copy)]
 pub struct VectorOrRefusal {
     pub vector: V128,
     pub refused: u8,
@@ -34,7 +34,7 @@ pub struct VectorOrRefusal {
 // The vector of a load; or the number of a refusal, 4 or 7, and the vector is 0. With a 7 goes how far past the end the access runs, at most 2^64-1; else
 // that is 0.
 #[repr(C)]
-#[derive(Drop)]
+#[derive(Clone, Copy)]
 pub struct Loaded {
     pub vector: V128,
     pub shortfall: u64,
@@ -43,7 +43,7 @@ pub struct Loaded {
 
 // The number of a store's refusal, 4 or 7, or 0; with a 7 how far past the end the access runs, at most 2^64-1.
 #[repr(C)]
-#[derive(Drop)]
+#[derive(Clone, Copy)]
 pub struct Stored {
     pub shortfall: u64,
     pub refused: u8,

@@ -13,7 +13,7 @@ use capture_history::{Next, Scan};
 
 // How far a capture has come: how many of its bytes lie before the window, how many are in it, and the bit of the window at which the search goes on.
 #[repr(C)]
-#[derive(Drop)]
+#[derive(Clone, Copy)]
 pub struct ScanState {
     pub before: u64,
     pub filled: usize,
@@ -22,7 +22,7 @@ pub struct ScanState {
 
 // How many bytes of a piece were taken, and the state then.
 #[repr(C)]
-#[derive(Drop)]
+#[derive(Clone, Copy)]
 pub struct FedState {
     pub used: usize,
     pub state: ScanState,
@@ -30,7 +30,7 @@ pub struct FedState {
 
 // The next meeting, with its position in the capture and both distances, where `met` is true; else these are 0, and nothing more is met in what has come.
 #[repr(C)]
-#[derive(Drop)]
+#[derive(Clone, Copy)]
 pub struct MeetingOrNone {
     pub position: u64,
     pub first: u32,

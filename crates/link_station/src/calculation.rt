@@ -14,7 +14,7 @@ use lane_integer::reinterpret::signed64;
 // The calculator's scalar. Kind 0 is an i32, 1 an i64, 2 an f32, 3 an f64, as in a recording, and any other stands for 0; of a kind of 32 bits the low bits
 // count.
 #[repr(C)]
-#[derive(Drop)]
+#[derive(Clone, Copy)]
 pub struct KindAndBits {
     pub kind: u8,
     pub bits: u64,
@@ -23,7 +23,7 @@ pub struct KindAndBits {
 // What a run leaves beside the registers: the scalar, the steps done, and how it stopped. Paused: the place to take up from. Refused: the number, 1 to 6, 17 or
 // 19; else 0. Neither: the list has ended. What says nothing is 0.
 #[repr(C)]
-#[derive(Drop)]
+#[derive(Clone, Copy)]
 pub struct RunAnswer {
     pub scalar: KindAndBits,
     pub done: usize,
@@ -34,7 +34,7 @@ pub struct RunAnswer {
 
 // What a step leaves beside the registers: the scalar, and the number of a refusal, 2 to 6; else 0.
 #[repr(C)]
-#[derive(Drop)]
+#[derive(Clone, Copy)]
 pub struct StepAnswer {
     pub scalar: KindAndBits,
     pub refused: u8,

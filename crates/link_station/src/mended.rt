@@ -8,7 +8,7 @@ use recording_mending::Mending;
 // How many blocks were written, whether the block after them could not be mended, and of each block written the bit that was put back, or 4096 for none. Or the
 // number of a refusal, 13 or 16, and nothing is written; else 0.
 #[repr(C)]
-#[derive(Drop)]
+#[derive(Clone, Copy)]
 pub struct MendAnswer {
     pub refused: u8,
     pub written: usize,

@@ -8,7 +8,7 @@ use finder_windows::Answer;
 // A position with the distances of the windows there and a frame later; or the number of a refusal: 8 tolerance above 8, 9 length outside 64 to 65,536, 10
 // buffer above 65,536 bytes or too short, 11 no such position. The number is 0 where a position is given, and the others are 0 where it is refused.
 #[repr(C)]
-#[derive(Drop)]
+#[derive(Clone, Copy)]
 pub struct PositionOrRefusal {
     pub position: usize,
     pub first: u32,

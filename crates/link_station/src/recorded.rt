@@ -9,7 +9,7 @@ use recording_rules::Recorded;
 
 // How many bytes were written. None where the list has no step, the recording would overflow the buffer, or the list is refused: the number, 1; else 0.
 #[repr(C)]
-#[derive(Drop)]
+#[derive(Clone, Copy)]
 pub struct RecordAnswer {
     pub bytes: usize,
     pub empty: bool,
@@ -19,7 +19,7 @@ pub struct RecordAnswer {
 
 // The first record that is not what the definition gives, counted from 1; 0 where all are. Or the number of a refusal; else 0.
 #[repr(C)]
-#[derive(Drop)]
+#[derive(Clone, Copy)]
 pub struct ReplayAnswer {
     pub differs: u16,
     pub refused: u8,

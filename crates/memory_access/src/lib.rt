@@ -11,45 +11,45 @@ use memory_bounds::{Access, reach};
 pub use memory_bounds::{Effective, PAST};
 
 // The answer of a load: the number of the bytes, or the shortfall.
-#[derive(Drop)]
+#[derive(Clone, Copy)]
 pub enum Fetched8 {
     Number(u8),
     Past(u64),
 }
 
-#[derive(Drop)]
+#[derive(Clone, Copy)]
 pub enum Fetched16 {
     Number(u16),
     Past(u64),
 }
 
-#[derive(Drop)]
+#[derive(Clone, Copy)]
 pub enum Fetched32 {
     Number(u32),
     Past(u64),
 }
 
-#[derive(Drop)]
+#[derive(Clone, Copy)]
 pub enum Fetched64 {
     Number(u64),
     Past(u64),
 }
 
 // The 16 bytes of a vector, low half first.
-#[derive(Drop)]
+#[derive(Clone, Copy)]
 pub struct Halves {
     pub lo: u64,
     pub hi: u64,
 }
 
-#[derive(Drop)]
+#[derive(Clone, Copy)]
 pub enum Fetched128 {
     Number(Halves),
     Past(u64),
 }
 
 // The answer of a store.
-#[derive(Drop)]
+#[derive(Clone, Copy)]
 pub enum Put {
     Done,
     Past(u64),

@@ -9,14 +9,14 @@ ghost use Rattle.memory_bounds.specs.Bounds.{effective, access_answer};
 pub const PAST: u8 = 7;
 
 // An effective address: "pointer p with offset o", whose exact sum may pass 2^64, or the address of an `_at` form.
-#[derive(Drop)]
+#[derive(Clone, Copy)]
 pub enum Effective {
     Sum(u64, u64),
     Address(usize),
 }
 
 // The answer of the bounds test: where the first byte stands, or the shortfall of an access that runs past the end.
-#[derive(Drop)]
+#[derive(Clone, Copy)]
 pub enum Access {
     At(usize),
     Past(u64),

@@ -19,7 +19,7 @@ use simd::V128;
 use simd::answer::{LANE, VectorAnswer};
 
 // The vector; the number of a refusal, for a lane that is not below the lane count; or the shortfall of an access past the end.
-#[derive(Drop)]
+#[derive(Clone, Copy)]
 pub enum LoadAnswer {
     Vector(V128),
     Refused(u8),

@@ -9,7 +9,7 @@ use memory_access::Put;
 
 // What it wrote is in the memory that it was lent; or the number of a refusal, for a lane that is not below the lane count; or the shortfall of an access
 // past the end.
-#[derive(Drop)]
+#[derive(Clone, Copy)]
 pub enum StoreAnswer {
     Done,
     Refused(u8),

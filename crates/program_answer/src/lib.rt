@@ -3,7 +3,7 @@
 
 
 // How many bytes of each lent slice go to standard output and to standard error.
-#[derive(Drop)]
+#[derive(Clone, Copy)]
 pub struct Told {
     pub output: usize,
     pub said: usize,

@@ -5,7 +5,7 @@ ghost use Rattle.std.specs.Prelude.{◌≤◌, ◌≡◌};
 ghost use Rattle.program_arguments.specs.Arguments.{digit, numeral, fitting, decimal, eight_hex_digits};
 ghost use Rattle.program_arguments.specs.Numeral.{numeral_of};
 
-#[derive(Drop)]
+#[derive(Clone, Copy)]
 pub enum Numeral {
     Number(u32),
     None,

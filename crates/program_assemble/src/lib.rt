@@ -12,7 +12,7 @@ use program_answer::Told;
 use program_words::Stop;
 
 // The steps that a text gives, and the number of its first wrong line and why it is wrong; 0 and 0 where none is.
-#[derive(Drop)]
+#[derive(Clone, Copy)]
 pub struct Assembly {
     pub steps: usize,
     pub line: usize,
@@ -20,7 +20,7 @@ pub struct Assembly {
 }
 
 // After a line: how many steps there are, the place after them, and why the line is wrong, or 0.
-#[derive(Drop)]
+#[derive(Clone, Copy)]
 pub struct Taken {
     pub steps: usize,
     pub at: usize,

@@ -10,7 +10,7 @@ use program_arguments::Numeral;
 use program_words::Stop;
 
 // How a field is written: `r0` to `r15`; 0 to 255; 1 to 255; two hex digits.
-#[derive(Drop)]
+#[derive(Clone, Copy)]
 pub enum Field {
     Register,
     Lane,
@@ -19,7 +19,7 @@ pub enum Field {
 }
 
 // A field's value and the place after it; or that none is there.
-#[derive(Drop)]
+#[derive(Clone, Copy)]
 pub enum Value {
     Some(u8, usize),
     None,

@@ -8,7 +8,7 @@ ghost use Rattle.program_forms.specs.Takes.{takes_of};
 use calculator_rules::shape::Shape;
 
 // Registers of consecutive places of the step from `first` on, lane numbers, bytes: how many of each.
-#[derive(Drop)]
+#[derive(Clone, Copy)]
 pub struct Takes {
     pub first: usize,
     pub registers: usize,

@@ -15,7 +15,7 @@ use program_forms::Takes;
 use program_words::Stop;
 
 // A line that is being read: the place that is reached, why it stands for no step (0 as long as it may), and the step so far.
-#[derive(Drop)]
+#[derive(Clone, Copy)]
 pub struct Reading {
     pub at: usize,
     pub reason: u8,
@@ -23,7 +23,7 @@ pub struct Reading {
 }
 
 // What a line stands for: nothing, a step (reason 0), or no step for a reason.
-#[derive(Drop)]
+#[derive(Clone, Copy)]
 pub struct Read {
     pub empty: bool,
     pub reason: u8,

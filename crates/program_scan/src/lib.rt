@@ -466,7 +466,7 @@ fn fill<'a>(
 }
 
 // How far lines were put: how many bytes they have, whether nothing more is met in what has come, and the scan after them.
-#[derive(Drop)]
+#[derive(Clone, Copy)]
 pub struct Put {
     pub used: usize,
     pub done: bool,

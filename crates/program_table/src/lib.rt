@@ -10,7 +10,7 @@ ghost use Rattle.program_table.specs.Spans.{Spans};
 use program_words::Stop;
 
 // A part of a text.
-#[derive(Drop)]
+#[derive(Clone, Copy)]
 pub struct Span {
     pub start: usize,
     pub end: usize,

@@ -6,7 +6,7 @@ ghost use Rattle.program_words.specs.Cut.{before, comment, statement, newline, p
 ghost use Rattle.program_words.specs.Stops.{stops};
 
 // What stops a scan: a line's end, a blank, or anything but a blank.
-#[derive(Drop)]
+#[derive(Clone, Copy)]
 pub enum Stop {
     Line,
     Blank,

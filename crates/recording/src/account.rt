@@ -11,7 +11,7 @@ use calculator_state::kind;
 use calculator_step::step;
 
 // The scalar after a step, and its trace: the halves of the vector written, the number of the refusal, the scalar's kind and bits.
-#[derive(Drop)]
+#[derive(Clone, Copy)]
 pub struct Left {
     pub scalar: Scalar,
     pub lo: u64,

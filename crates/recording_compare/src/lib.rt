@@ -11,7 +11,7 @@ use memory_bounds::Effective;
 use recording_fields::{ending_word, scalar_word};
 
 // What a replay answers.
-#[derive(Drop)]
+#[derive(Clone, Copy)]
 pub enum Answer {
     Agrees,
     // the first record that is not what the definition gives, counted from 1

@@ -15,7 +15,7 @@ pub const CHECK: u8 = 14;
 pub const LAYOUT: u8 = 15;
 
 // The number of records of a file that is a recording, or the number of its refusal.
-#[derive(Drop)]
+#[derive(Clone, Copy)]
 pub enum Judged {
     Recording(usize),
     Refused(u8),

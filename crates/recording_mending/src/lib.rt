@@ -12,7 +12,7 @@ use recording_mending_place::{NONE, place};
 // "output buffer shorter than the input, tested after 13"
 pub const SHORT: u8 = 16;
 
-#[derive(Drop)]
+#[derive(Clone, Copy)]
 pub struct Mending {
     // the number of a refusal; 0 for none
     pub refused: u8,

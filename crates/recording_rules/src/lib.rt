@@ -3,7 +3,7 @@
 
 
 // How many bytes were written, or why none were.
-#[derive(Drop)]
+#[derive(Clone, Copy)]
 pub enum Recorded {
     Bytes(usize),
     // the list has no step, so there is nothing to record

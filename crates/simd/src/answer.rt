@@ -8,37 +8,37 @@ pub const LANE: u8 = 4;
 // Refusal 5: "a shuffle index above 31".
 pub const INDEX: u8 = 5;
 
-#[derive(Drop)]
+#[derive(Clone, Copy)]
 pub enum VectorAnswer {
     Vector(V128),
     Refused(u8),
 }
 
-#[derive(Drop)]
+#[derive(Clone, Copy)]
 pub enum I32Answer {
     Value(i32),
     Refused(u8),
 }
 
-#[derive(Drop)]
+#[derive(Clone, Copy)]
 pub enum U32Answer {
     Value(u32),
     Refused(u8),
 }
 
-#[derive(Drop)]
+#[derive(Clone, Copy)]
 pub enum I64Answer {
     Value(i64),
     Refused(u8),
 }
 
-#[derive(Drop)]
+#[derive(Clone, Copy)]
 pub enum F32Answer {
     Value(F32),
     Refused(u8),
 }
 
-#[derive(Drop)]
+#[derive(Clone, Copy)]
 pub enum F64Answer {
     Value(F64),
     Refused(u8),

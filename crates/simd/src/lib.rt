@@ -31,7 +31,7 @@ use answer::{LANE, VectorAnswer};
 
 // The 128 bits of a vector, low half first: byte 0 is the low byte of `lo`. Its layout is C's, so that another language can hand one over.
 #[repr(C)]
-#[derive(Drop)]
+#[derive(Clone, Copy)]
 pub struct V128 {
     pub lo: u64,
     pub hi: u64,
