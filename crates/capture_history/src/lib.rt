@@ -2,7 +2,6 @@
 // calls (proofs/), and the values that go from one to the other. No code.
 #![tactic(auto)]
 
-
 // How many bytes of a capture are taken: no position passes the end of a u64.
 pub const CAPTURE: u64 = 1152921504606846976;
 

@@ -1,16 +1,16 @@
 -- The laws of every meeting: in parts, shifted, cut and carried. Assumes nothing.
 use mathlib.Core.Path.{◌≡◌, refl, sym, ap, ap₂, ◌∙◌}
-use mathlib.Core.Bool.{Bool, true, false, cond}
-use mathlib.Core.List.{List, [], ◌∷◌, ◌++◌, append_assoc, append-nil}
-use Prim.Native.Nat.{ℕ, zero, suc, ◌+◌, ◌-◌, ◌<◌, ◌≤◌, zero-le}
+use mathlib.Core.Bool.{Bool, true, false}
+use mathlib.Core.List.{List, [], ◌∷◌, ◌++◌, append-nil}
+use Prim.Native.Nat.{ℕ, zero, suc, ◌+◌, ◌-◌, ◌<◌, ◌≤◌}
 use native.Mathlib.Nat.{add-zero, zero-add, suc-add}
 use native.Mathlib.Omega.{arith}
 use borrow.Author.Tests.{ltb-true, ltb-false}
 use lib.Dec.{ltb}
-use lib.ListN.{length, take, drop, length-append, length-take, length-drop, take-append-drop, drop_of_length-le}
+use lib.ListN.{length, take, drop, length-drop, take-append-drop}
 use lib.Seq.{take_all, drop-drop, take-append-le, drop-append-le, length-take-le, take_at}
-use Rattle.finder_windows.specs.Definition.{window, distance, stands, first_from}
-use Rattle.capture_meetings.specs.Meetings.{Meeting, met, all_from, places, meetings, shift, first_of}
+use Rattle.finder_windows.specs.Definition.{window, stands}
+use Rattle.capture_meetings.specs.Meetings.{Meeting, met, all_from, places, meetings, shift}
 
 pub shift_none : (k : ℕ) → shift k [] ≡ []
 unfolding shift

@@ -8,7 +8,7 @@ use borrow.Author.Tests.{ne_eqb}
 use lib.Dec.{ltb}
 use lib.ListN.{length, take, drop, length-drop}
 use lib.Seq.{drop-drop}
-use Rattle.finder_windows.specs.Definition.{bits, marker_bits, window, distance, stands, refusal, first_from, find, barred}
+use Rattle.finder_windows.specs.Definition.{bits, marker_bits, stands, refusal, first_from, find, barred}
 use Rattle.finder_windows.proofs.Refusals.{admitted, find_searched}
 use Rattle.capture_meetings.specs.Meetings.{Meeting, met, all_from, places, meetings, shift, segment, first_of, any, ending}
 use Rattle.capture_meetings.proofs.Laws.{shift_none, shift_zero, shift_shift, shift_append, cut, carry}

@@ -1,5 +1,5 @@
 -- Every position of a capture at which the marker is met, in order, over lists of bits.
-use Rattle.std.specs.Prelude.{ℕ, zero, suc, ◌+◌, ◌-◌, Bool, true, false, cond, List, [], ◌∷◌, ◌++◌, ltb, eqb, length, take, drop}
+use Rattle.std.specs.Prelude.{ℕ, zero, suc, ◌+◌, ◌-◌, Bool, true, false, cond, List, [], ◌∷◌, ltb, eqb, length, take, drop}
 use Rattle.finder_windows.specs.Definition.{window, distance, Answer, found, refused, stands, barred}
 
 -- Where the marker is met, with the distances of the window there and of the one a frame later.

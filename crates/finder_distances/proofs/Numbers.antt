@@ -1,8 +1,8 @@
 -- Forty bits as a word of 32 and a byte, and the windows that stand in them. Assumes nothing.
 use Prim.Native.Nat.{ℕ, ◌+◌, ◌*◌, ◌-◌, ◌/◌, ◌%◌, ◌^◌, ◌<◌, ◌≤◌}
-use mathlib.Core.Path.{◌≡◌, refl, sym, ap, ap₂, ◌∙◌}
+use mathlib.Core.Path.{◌≡◌, sym, ap, ap₂, ◌∙◌}
 use mathlib.Core.List.{List}
-use native.Mathlib.Nat.{add-zero, mul_assoc, mul-add, add-mul, add_assoc, mod-lt}
+use native.Mathlib.Nat.{add-zero, mul_assoc, add-mul, add_assoc, mod-lt}
 use native.Mathlib.Omega.{arith}
 use lib.Pow.{high, low, split, pow-add, pow_pos, mod-pow-add, shr_lt}
 use borrow.Author.Count.{below_more}
