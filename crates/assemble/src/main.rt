@@ -2,22 +2,20 @@
 // no step, and why.
 #![tactic(auto)]
 
-use libc::{STDERR_FILENO, STDOUT_FILENO};
-use program_status::STATUS_FILENO;
+use program_system::{complain, has_argument, tell_status};
 
-fn main() {
-    if os::arg_count() > 1 {
-        io::write_all(
-            STDERR_FILENO,
-            b"assemble: takes no arguments, it reads a text from standard input: ./assemble < TEXT > LIST\n",
+fn main(rt: HostRuntime) {
+    if has_argument(&rt, 1) {
+        let _ = eprintln!(rt;
+            "assemble: takes no arguments, it reads a text from standard input: ./assemble < TEXT > LIST"
         );
         return;
     }
     // One byte above 65,536 decides, so no more than that is read.
     let mut text = [0u8; 65537];
-    let reading = program_input::read_to(&mut text);
-    if reading.failed {
-        os::fail(b"assemble: standard input");
+    let reading = program_input::read_to(&mut rt.stdin(), &mut text);
+    if let Some(error) = reading.failed {
+        complain(&rt, "assemble: standard input", error);
         return;
     }
     let n = reading.bytes;
@@ -25,11 +23,11 @@ fn main() {
     let mut said = [0u8; 128];
     let told = program_assemble::assemble(&text[..n], &mut output, &mut said);
     let bytes = told.output;
-    if !io::write_all(STDOUT_FILENO, &output[..bytes]) {
-        os::fail(b"assemble: standard output");
+    if let Err(error) = rt.write_all(&output[..bytes]) {
+        complain(&rt, "assemble: standard output", error);
         return;
     }
     let words = told.said;
-    io::write_all(STDERR_FILENO, &said[..words]);
-    io::write_all(STATUS_FILENO, &program_status::digit(words == 0));
+    let _ = rt.stderr().write_all(&said[..words]);
+    tell_status(&rt, words == 0);
 }

@@ -7,9 +7,9 @@
 
 ghost use Rattle.std.specs.Prelude.{◌≤◌};
 
-use libc::{STDIN_FILENO, STDOUT_FILENO};
 use memory_access::{Effective, Fetched64};
 use simd::V128;
+use std::io;
 
 const RECORD: usize = 1924;
 
@@ -131,14 +131,8 @@ fn counted(counts: Counts, vectors: usize, differs: bool) -> Counts {
     }
 }
 
-fn line(name: &[u8], n: u64) {
-    io::write_all(STDOUT_FILENO, name);
-    io::print_decimal(STDOUT_FILENO, n);
-    io::write_all(STDOUT_FILENO, b"\n");
-}
-
 // The turns count down, so that the program ends whatever is handed in.
-fn main() {
+fn main(rt: HostRuntime) -> io::Result<()> {
     let mut counts = Counts {
         records: 0,
         vectors: 0,
@@ -147,14 +141,19 @@ fn main() {
     let mut turns = u64::MAX;
     while turns > 0 {
         let mut record = [0u8; 1924];
-        let n = io::read_full(STDIN_FILENO, &mut record);
+        let n = program_input::read_to(&mut rt.stdin(), &mut record).bytes;
         if n == 0 {
             break;
         }
         counts = counted(counts, vectors(&record), n < RECORD || differs(&record));
         turns -= 1;
     }
-    line(b"records ", counts.records);
-    line(b"vectors ", counts.vectors);
-    line(b"differ ", counts.differ);
+    let Counts {
+        records,
+        vectors,
+        differ,
+    } = counts;
+    println!(rt; "records {records}")?;
+    println!(rt; "vectors {vectors}")?;
+    println!(rt; "differ {differ}")
 }

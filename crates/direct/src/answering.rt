@@ -3,7 +3,7 @@ ghost use Rattle.std.specs.Prelude.{◌≡◌, ◌+◌, ◌<◌, ◌≤◌, leng
 
 use crate::layout::*;
 use crate::{dispatch, stream};
-use libc::{STDIN_FILENO, STDOUT_FILENO};
+use std::io;
 
 // Where the last answer to a chunk starts: 512 answers have 40,960 bytes.
 const LAST: usize = 40880;
@@ -48,20 +48,20 @@ fn answer_all(input: &[u8], output: &mut [u8]) -> usize
 }
 
 // Answers one chunk, and says whether to go on.
-fn answer_some() -> bool {
-    let mut input = io::large_buffer();
-    let n = io::read_full(STDIN_FILENO, &mut input);
+fn answer_some(rt: &HostRuntime) -> io::Result<bool> {
+    let mut input = [0u8; 65536];
+    let n = program_input::read_to(&mut rt.stdin(), &mut input).bytes;
     let mut output = [0u8; 40960];
     let used = answer_all(&input[..n], &mut output);
-    let m = io::count(used as isize, &output);
-    let is_written = io::write_all(STDOUT_FILENO, &output[..m]);
-    is_written && n == 65536
+    rt.write_all(&output[..used])?;
+    Ok(n == 65536)
 }
 
 // A proved loop has to end, and nothing says that the input does: the turns count down from a number that no run uses up.
-pub fn answer_input() {
+pub fn answer_input(rt: &HostRuntime) -> io::Result<()> {
     let mut turns = u64::MAX;
-    while turns > 0 && answer_some() {
+    while turns > 0 && answer_some(rt)? {
         turns -= 1;
     }
+    Ok(())
 }

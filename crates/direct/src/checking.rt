@@ -4,7 +4,7 @@
 ghost use Rattle.std.specs.Prelude.{◌<◌, length};
 
 use crate::{dispatch, stream};
-use libc::{STDIN_FILENO, STDOUT_FILENO};
+use std::io;
 
 const RECORD: usize = 292;
 
@@ -60,39 +60,31 @@ fn check_all(input: &[u8], rows: &mut [u64; 256], differ: &mut [u64; 256]) {
 }
 
 // Checks one chunk, and says whether to go on.
-fn check_some(rows: &mut [u64; 256], differ: &mut [u64; 256]) -> bool {
+fn check_some(rt: &HostRuntime, rows: &mut [u64; 256], differ: &mut [u64; 256]) -> bool {
     let mut input = [0u8; 65408];
-    let n = io::read_full(STDIN_FILENO, &mut input);
+    let n = program_input::read_to(&mut rt.stdin(), &mut input).bytes;
     check_all(&input[..n], rows, differ);
     n == CHUNK
 }
 
-fn print_set(set: u64, rows: u64, differ: u64) {
-    io::write_all(STDOUT_FILENO, b"set ");
-    io::print_decimal(STDOUT_FILENO, set);
-    io::write_all(STDOUT_FILENO, b" rows ");
-    io::print_decimal(STDOUT_FILENO, rows);
-    io::write_all(STDOUT_FILENO, b" differ ");
-    io::print_decimal(STDOUT_FILENO, differ);
-    io::write_all(STDOUT_FILENO, b"\n");
-}
-
 // A line for each set that occurred.
-fn print_sets(rows: &[u64; 256], differ: &[u64; 256]) {
+fn print_sets(rt: &HostRuntime, rows: &[u64; 256], differ: &[u64; 256]) -> io::Result<()> {
     for i in 0..256 {
-        if rows[i] != 0 {
-            print_set(i as u64, rows[i], differ[i]);
+        let (rows, differ) = (rows[i], differ[i]);
+        if rows != 0 {
+            println!(rt; "set {i} rows {rows} differ {differ}")?;
         }
     }
+    Ok(())
 }
 
 // The turns count down as in `answer_input`.
-pub fn check_input() {
+pub fn check_input(rt: &HostRuntime) -> io::Result<()> {
     let mut rows = [0u64; 256];
     let mut differ = [0u64; 256];
     let mut turns = u64::MAX;
-    while turns > 0 && check_some(&mut rows, &mut differ) {
+    while turns > 0 && check_some(rt, &mut rows, &mut differ) {
         turns -= 1;
     }
-    print_sets(&rows, &differ);
+    print_sets(rt, &rows, &differ)
 }

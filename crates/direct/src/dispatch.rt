@@ -100,13 +100,12 @@ fn with_memory(r: Request, length: usize, bytes: &[u8; 128]) -> [u8; 80]
     requires { length ≤ 48 }
 {
     let mut space = request::memory(bytes, length);
-    let n = io::count(length as isize, &space);
     let f = r.function;
     if is_store(f) {
-        let answer = stored(r, &mut space[..n]);
+        let answer = stored(r, &mut space[..length]);
         answer.bytes_with(&space)
     } else {
-        let answer = loaded(r, &space[..n]);
+        let answer = loaded(r, &space[..length]);
         answer.bytes_with(&space)
     }
 }

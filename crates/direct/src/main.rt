@@ -24,10 +24,13 @@ mod splat;
 mod stream;
 mod widen;
 
+use std::io;
+use std::rt::Env;
+
 // Whether the first argument is `check`.
-fn is_check() -> bool {
+fn is_check(env: &impl Env) -> bool {
     let mut word = [0u8; 5];
-    let n = os::arg(1, &mut word);
+    let n = program_system::argument(env, 1, &mut word);
     n == 5
         && word[0] == b'c'
         && word[1] == b'h'
@@ -36,10 +39,10 @@ fn is_check() -> bool {
         && word[4] == b'k'
 }
 
-fn main() {
-    if is_check() {
-        checking::check_input();
+fn main(rt: HostRuntime) -> io::Result<()> {
+    if is_check(&rt) {
+        checking::check_input(&rt)
     } else {
-        answering::answer_input();
+        answering::answer_input(&rt)
     }
 }

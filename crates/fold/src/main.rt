@@ -6,8 +6,7 @@ ghost use Rattle.std.specs.Prelude.{◌*◌, ◌<◌, ◌≤◌, ◌≡◌, take
 ghost use Rattle.program_digits.specs.Put.{Filled};
 ghost use Rattle.fold.specs.Text.{links, links_in, text};
 
-use libc::{STDERR_FILENO, STDOUT_FILENO};
-use program_status::STATUS_FILENO;
+use program_system::{complain, has_argument, tell_status};
 
 const LINK: usize = 17;
 
@@ -55,34 +54,32 @@ fn answer(bytes: [u8; 289], n: usize, out: &mut [u8; 128]) -> usize
     program_reports::fold(refused, indices, out)
 }
 
-fn main() {
-    if os::arg_count() > 1 {
-        io::write_all(
-            STDERR_FILENO,
-            b"fold: takes no arguments, it reads a chain from standard input: ./fold < CHAIN\n",
+fn main(rt: HostRuntime) {
+    if has_argument(&rt, 1) {
+        let _ = eprintln!(rt;
+            "fold: takes no arguments, it reads a chain from standard input: ./fold < CHAIN"
         );
         return;
     }
     let mut bytes = [0u8; 289];
-    let reading = program_input::read_to(&mut bytes[..DECIDES]);
-    if reading.failed {
-        os::fail(b"fold: standard input");
+    let reading = program_input::read_to(&mut rt.stdin(), &mut bytes[..DECIDES]);
+    if let Some(error) = reading.failed {
+        complain(&rt, "fold: standard input", error);
         return;
     }
     let n = reading.bytes;
     if n < DECIDES && n % LINK != 0 {
-        io::write_all(
-            STDERR_FILENO,
-            b"fold: expected links of 17 bytes, a partner and sixteen indices, and the last one is cut short\n",
+        let _ = eprintln!(rt;
+            "fold: expected links of 17 bytes, a partner and sixteen indices, and the last one is cut short"
         );
         return;
     }
     let mut out = [0u8; 128];
     let written = answer(bytes, n, &mut out);
-    if !io::write_all(STDOUT_FILENO, &out[..written]) {
-        os::fail(b"fold: standard output");
+    if let Err(error) = rt.write_all(&out[..written]) {
+        complain(&rt, "fold: standard output", error);
         return;
     }
     let good = program_status::is_good(&out[..written]);
-    io::write_all(STATUS_FILENO, &program_status::digit(good));
+    tell_status(&rt, good);
 }

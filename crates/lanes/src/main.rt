@@ -7,9 +7,8 @@ ghost use Rattle.program_listing.specs.Listing.{lanes_text};
 
 use calculator::run::run;
 use calculator_state::State;
-use libc::{STDERR_FILENO, STDOUT_FILENO};
 use program_listing::{put_listing, refused_by};
-use program_status::STATUS_FILENO;
+use program_system::{complain, has_argument, tell_status};
 
 // All bytes that the program writes of a step list.
 fn answer(list: &[u8], out: &mut [u8; 1024]) -> usize
@@ -21,28 +20,27 @@ fn answer(list: &[u8], out: &mut [u8; 1024]) -> usize
     put_listing(out, 0, state, ending.done, refused_by(outcome))
 }
 
-fn main() {
-    if os::arg_count() > 1 {
-        io::write_all(
-            STDERR_FILENO,
-            b"lanes: takes no arguments, it reads a step list from standard input: ./lanes < LIST\n",
+fn main(rt: HostRuntime) {
+    if has_argument(&rt, 1) {
+        let _ = eprintln!(rt;
+            "lanes: takes no arguments, it reads a step list from standard input: ./lanes < LIST"
         );
         return;
     }
     // "list length not a multiple of 32, or above 8,192": one byte above decides, so no more than that is read.
     let mut list = [0u8; 8193];
-    let reading = program_input::read_to(&mut list);
-    if reading.failed {
-        os::fail(b"lanes: standard input");
+    let reading = program_input::read_to(&mut rt.stdin(), &mut list);
+    if let Some(error) = reading.failed {
+        complain(&rt, "lanes: standard input", error);
         return;
     }
     let n = reading.bytes;
     let mut out = [0u8; 1024];
     let written = answer(&list[..n], &mut out);
-    if !io::write_all(STDOUT_FILENO, &out[..written]) {
-        os::fail(b"lanes: standard output");
+    if let Err(error) = rt.write_all(&out[..written]) {
+        complain(&rt, "lanes: standard output", error);
         return;
     }
     let good = program_status::is_good(&out[..written]);
-    io::write_all(STATUS_FILENO, &program_status::digit(good));
+    tell_status(&rt, good);
 }

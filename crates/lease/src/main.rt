@@ -6,9 +6,9 @@
 mod calls;
 
 use calls::lease;
-use libc::{STDERR_FILENO, STDOUT_FILENO};
 use program_arguments::Numeral;
-use program_status::STATUS_FILENO;
+use program_system::{argument, complain, has_argument, tell_status};
+use std::rt::Env;
 
 #[derive(Drop)]
 struct Task {
@@ -23,47 +23,46 @@ enum Asked {
 }
 
 // An argument of Linux has fewer than 131,072 bytes, so each comes whole, whatever zeros it begins with.
-fn decimal_at(i: usize) -> Numeral {
+fn decimal_at(env: &impl Env, i: usize) -> Numeral {
     let mut text = [0u8; 131072];
-    let n = os::arg(i, &mut text);
+    let n = argument(env, i, &mut text);
     program_arguments::decimal(&text[..n])
 }
 
-fn read_arguments() -> Asked {
-    if os::arg_count() != 3 {
+fn read_arguments(env: &impl Env) -> Asked {
+    if !has_argument(env, 2) || has_argument(env, 3) {
         return Asked::Badly;
     }
-    let Numeral::Number(place) = decimal_at(1) else {
+    let Numeral::Number(place) = decimal_at(env, 1) else {
         return Asked::Badly;
     };
-    let Numeral::Number(limit) = decimal_at(2) else {
+    let Numeral::Number(limit) = decimal_at(env, 2) else {
         return Asked::Badly;
     };
     Asked::For(Task { place, limit })
 }
 
-fn main() {
-    let Asked::For(task) = read_arguments() else {
-        io::write_all(
-            STDERR_FILENO,
-            b"lease: expected a place and a limit in decimal, both below 4294967296, and a step list on standard input: ./lease PLACE LIMIT < LIST\n",
+fn main(rt: HostRuntime) {
+    let Asked::For(task) = read_arguments(&rt) else {
+        let _ = eprintln!(rt;
+            "lease: expected a place and a limit in decimal, both below 4294967296, and a step list on standard input: ./lease PLACE LIMIT < LIST"
         );
         return;
     };
     // "list length not a multiple of 32, or above 8,192": one byte above decides, so no more than that is read.
     let mut list = [0u8; 8193];
-    let reading = program_input::read_to(&mut list);
-    if reading.failed {
-        os::fail(b"lease: standard input");
+    let reading = program_input::read_to(&mut rt.stdin(), &mut list);
+    if let Some(error) = reading.failed {
+        complain(&rt, "lease: standard input", error);
         return;
     }
     let n = reading.bytes;
     let mut out = [0u8; 16384];
     let written = lease(&list[..n], task.place, task.limit, &mut out);
-    if !io::write_all(STDOUT_FILENO, &out[..written]) {
-        os::fail(b"lease: standard output");
+    if let Err(error) = rt.write_all(&out[..written]) {
+        complain(&rt, "lease: standard output", error);
         return;
     }
     let good = program_status::is_good(&out[..written]);
-    io::write_all(STATUS_FILENO, &program_status::digit(good));
+    tell_status(&rt, good);
 }

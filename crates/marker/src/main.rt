@@ -7,9 +7,9 @@ ghost use Rattle.finder_windows.specs.Definition.{find};
 ghost use Rattle.program_digits.specs.Put.{Filled};
 ghost use Rattle.program_reports.specs.Lines.{marker};
 
-use libc::{STDERR_FILENO, STDOUT_FILENO};
 use program_arguments::Numeral;
-use program_status::STATUS_FILENO;
+use program_system::{argument, complain, has_argument, tell_status};
+use std::rt::Env;
 
 #[derive(Drop)]
 struct Task {
@@ -34,41 +34,41 @@ fn answer(buffer: &[u8], task: Task, out: &mut [u8; 128]) -> usize
     )
 }
 
-fn report(buffer: &[u8], task: Task) {
+fn report(rt: &HostRuntime, buffer: &[u8], task: Task) {
     let mut out = [0u8; 128];
     let n = answer(buffer, task, &mut out);
-    if !io::write_all(STDOUT_FILENO, &out[..n]) {
-        os::fail(b"marker: standard output");
+    if let Err(error) = rt.write_all(&out[..n]) {
+        complain(rt, "marker: standard output", error);
         return;
     }
     let good = program_status::is_good(&out[..n]);
-    io::write_all(STATUS_FILENO, &program_status::digit(good));
+    tell_status(rt, good);
 }
 
 // An argument of Linux has fewer than 131,072 bytes, so each comes whole, whatever zeros it begins with.
-fn decimal_at(i: usize) -> Numeral {
+fn decimal_at(env: &impl Env, i: usize) -> Numeral {
     let mut text = [0u8; 131072];
-    let n = os::arg(i, &mut text);
+    let n = argument(env, i, &mut text);
     program_arguments::decimal(&text[..n])
 }
 
-fn marker_at(i: usize) -> Numeral {
+fn marker_at(env: &impl Env, i: usize) -> Numeral {
     let mut text = [0u8; 8];
-    let n = os::arg(i, &mut text);
+    let n = argument(env, i, &mut text);
     program_arguments::eight_hex_digits(&text[..n])
 }
 
-fn read_arguments() -> Asked {
-    if os::arg_count() != 4 {
+fn read_arguments(env: &impl Env) -> Asked {
+    if !has_argument(env, 3) || has_argument(env, 4) {
         return Asked::Badly;
     }
-    let Numeral::Number(marker) = marker_at(1) else {
+    let Numeral::Number(marker) = marker_at(env, 1) else {
         return Asked::Badly;
     };
-    let Numeral::Number(tolerance) = decimal_at(2) else {
+    let Numeral::Number(tolerance) = decimal_at(env, 2) else {
         return Asked::Badly;
     };
-    let Numeral::Number(length) = decimal_at(3) else {
+    let Numeral::Number(length) = decimal_at(env, 3) else {
         return Asked::Badly;
     };
     Asked::For(Task {
@@ -85,25 +85,24 @@ fn is_decided(task: Task) -> bool
     finder_windows::barred(task.tolerance, task.length) != 0
 }
 
-fn main() {
-    let Asked::For(task) = read_arguments() else {
-        io::write_all(
-            STDERR_FILENO,
-            b"marker: expected a marker of eight hex digits, a tolerance and a frame length in decimal, both below 4294967296\n",
+fn main(rt: HostRuntime) {
+    let Asked::For(task) = read_arguments(&rt) else {
+        let _ = eprintln!(rt;
+            "marker: expected a marker of eight hex digits, a tolerance and a frame length in decimal, both below 4294967296"
         );
         return;
     };
     if is_decided(task) {
-        report(b"", task);
+        report(&rt, b"", task);
         return;
     }
     // "buffer above 65,536 bytes": one byte above decides, so no more than that is read.
     let mut buffer = [0u8; 65537];
-    let reading = program_input::read_to(&mut buffer);
-    if reading.failed {
-        os::fail(b"marker: standard input");
+    let reading = program_input::read_to(&mut rt.stdin(), &mut buffer);
+    if let Some(error) = reading.failed {
+        complain(&rt, "marker: standard input", error);
         return;
     }
     let n = reading.bytes;
-    report(&buffer[..n], task);
+    report(&rt, &buffer[..n], task);
 }

@@ -2,41 +2,39 @@
 // bit put back, up to the first that can not be mended. On standard error a line for each bit put back, and one for the block at which it stopped.
 #![tactic(auto)]
 
-use libc::{STDERR_FILENO, STDOUT_FILENO};
-use program_status::STATUS_FILENO;
+use program_system::{complain, has_argument, tell_status};
 use recording_mending::mend;
 
 // The longest recording is 37 blocks.
-fn write_mended(file: &[u8]) {
+fn write_mended(rt: &HostRuntime, file: &[u8]) {
     let mut out = [0u8; 18944];
     let mended = mend(file, &mut out);
     let n = 512 * mended.written;
-    if !io::write_all(STDOUT_FILENO, &out[..n]) {
-        os::fail(b"mend: standard output");
+    if let Err(error) = rt.write_all(&out[..n]) {
+        complain(rt, "mend: standard output", error);
         return;
     }
     let mut said = [0u8; 2048];
     let n = program_recordings::mend_said(mended, &mut said);
-    io::write_all(STDERR_FILENO, &said[..n]);
+    let _ = rt.stderr().write_all(&said[..n]);
     let good = (mended.refused == 0) & !mended.stopped;
-    io::write_all(STATUS_FILENO, &program_status::digit(good));
+    tell_status(rt, good);
 }
 
-fn main() {
-    if os::arg_count() > 1 {
-        io::write_all(
-            STDERR_FILENO,
-            b"mend: takes no arguments, it reads a recording from standard input: ./mend < RECORDING > FILE\n",
+fn main(rt: HostRuntime) {
+    if has_argument(&rt, 1) {
+        let _ = eprintln!(rt;
+            "mend: takes no arguments, it reads a recording from standard input: ./mend < RECORDING > FILE"
         );
         return;
     }
     // "above 37 blocks": one byte above decides, so no more than that is read.
     let mut file = [0u8; 18945];
-    let reading = program_input::read_to(&mut file);
-    if reading.failed {
-        os::fail(b"mend: standard input");
+    let reading = program_input::read_to(&mut rt.stdin(), &mut file);
+    if let Some(error) = reading.failed {
+        complain(&rt, "mend: standard input", error);
         return;
     }
     let n = reading.bytes;
-    write_mended(&file[..n]);
+    write_mended(&rt, &file[..n]);
 }

@@ -2,43 +2,41 @@
 // standard output. Where there is none it writes a line to standard error that says why.
 #![tactic(auto)]
 
-use libc::{STDERR_FILENO, STDOUT_FILENO};
-use program_status::STATUS_FILENO;
+use program_system::{complain, has_argument, tell_status};
 use recording::recorder::{Recorded, record};
 
 // The longest recording is 37 blocks.
-fn write_recording(list: &[u8]) {
+fn write_recording(rt: &HostRuntime, list: &[u8]) {
     let mut out = [0u8; 18944];
     let recorded = record(list, &mut out);
     if let Recorded::Bytes(length) = recorded {
-        if !io::write_all(STDOUT_FILENO, &out[..length]) {
-            os::fail(b"record: standard output");
+        if let Err(error) = rt.write_all(&out[..length]) {
+            complain(rt, "record: standard output", error);
             return;
         }
-        io::write_all(STATUS_FILENO, &program_status::digit(true));
+        tell_status(rt, true);
         return;
     }
     let mut said = [0u8; 32];
     let n = program_recordings::record_said(recorded, &mut said);
-    io::write_all(STDERR_FILENO, &said[..n]);
-    io::write_all(STATUS_FILENO, &program_status::digit(false));
+    let _ = rt.stderr().write_all(&said[..n]);
+    tell_status(rt, false);
 }
 
-fn main() {
-    if os::arg_count() > 1 {
-        io::write_all(
-            STDERR_FILENO,
-            b"record: takes no arguments, it reads a step list from standard input: ./record < LIST\n",
+fn main(rt: HostRuntime) {
+    if has_argument(&rt, 1) {
+        let _ = eprintln!(rt;
+            "record: takes no arguments, it reads a step list from standard input: ./record < LIST"
         );
         return;
     }
     // "list length not a multiple of 32, or above 8,192": one byte above decides, so no more than that is read.
     let mut list = [0u8; 8193];
-    let reading = program_input::read_to(&mut list);
-    if reading.failed {
-        os::fail(b"record: standard input");
+    let reading = program_input::read_to(&mut rt.stdin(), &mut list);
+    if let Some(error) = reading.failed {
+        complain(&rt, "record: standard input", error);
         return;
     }
     let n = reading.bytes;
-    write_recording(&list[..n]);
+    write_recording(&rt, &list[..n]);
 }

@@ -6,8 +6,7 @@ ghost use Rattle.recording_rules.specs.Definition as records;
 ghost use Rattle.program_digits.specs.Put.{Filled};
 ghost use Rattle.program_recordings.specs.Lines.{replay};
 
-use libc::{STDERR_FILENO, STDOUT_FILENO};
-use program_status::STATUS_FILENO;
+use program_system::{complain, has_argument, tell_status};
 
 // All bytes that the program writes of a file.
 fn answer(file: &[u8], out: &mut [u8; 32]) -> usize
@@ -16,28 +15,27 @@ fn answer(file: &[u8], out: &mut [u8; 32]) -> usize
     program_recordings::replay(recording::replay::replay(file), out)
 }
 
-fn main() {
-    if os::arg_count() > 1 {
-        io::write_all(
-            STDERR_FILENO,
-            b"replay: takes no arguments, it reads a recording from standard input: ./replay < RECORDING\n",
+fn main(rt: HostRuntime) {
+    if has_argument(&rt, 1) {
+        let _ = eprintln!(rt;
+            "replay: takes no arguments, it reads a recording from standard input: ./replay < RECORDING"
         );
         return;
     }
     // "above 37 blocks": one byte above decides, so no more than that is read.
     let mut file = [0u8; 18945];
-    let reading = program_input::read_to(&mut file);
-    if reading.failed {
-        os::fail(b"replay: standard input");
+    let reading = program_input::read_to(&mut rt.stdin(), &mut file);
+    if let Some(error) = reading.failed {
+        complain(&rt, "replay: standard input", error);
         return;
     }
     let n = reading.bytes;
     let mut out = [0u8; 32];
     let written = answer(&file[..n], &mut out);
-    if !io::write_all(STDOUT_FILENO, &out[..written]) {
-        os::fail(b"replay: standard output");
+    if let Err(error) = rt.write_all(&out[..written]) {
+        complain(&rt, "replay: standard output", error);
         return;
     }
     let good = program_status::is_good(&out[..written]);
-    io::write_all(STATUS_FILENO, &program_status::digit(good));
+    tell_status(&rt, good);
 }

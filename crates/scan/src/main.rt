@@ -7,9 +7,10 @@ ghost use Rattle.std.specs.Prelude.{◌≤◌, ◌≡◌, length};
 ghost use Rattle.io.specs.Counts.{IsPrefixLen};
 
 use capture_scanning::Scan;
-use libc::{STDERR_FILENO, STDIN_FILENO, STDOUT_FILENO};
 use program_arguments::Numeral;
-use program_status::STATUS_FILENO;
+use program_system::{argument, complain, has_argument, tell_status};
+use std::io::Read;
+use std::rt::Env;
 
 // How many bytes a capture may have.
 const CAPTURE: u64 = 1152921504606846976;
@@ -50,38 +51,38 @@ struct Course {
     state: u8,
 }
 
-fn flushed(out: &[u8], used: usize) -> bool {
+fn flushed(rt: &HostRuntime, out: &[u8], used: usize) -> bool {
     if out.len() < used {
         return false;
     }
     let start = 0;
-    if !io::write_all(STDOUT_FILENO, &out[start..used]) {
-        os::fail(b"scan: standard output");
+    if let Err(error) = rt.write_all(&out[start..used]) {
+        complain(rt, "scan: standard output", error);
         return false;
     }
     true
 }
 
-fn report(n: u8) {
+fn report(rt: &HostRuntime, n: u8) {
     let mut text = [0u8; 32];
     let end = program_scan::last_line(n, &mut text);
-    if !io::write_all(STDOUT_FILENO, &text[..end]) {
-        os::fail(b"scan: standard output");
+    if let Err(error) = rt.write_all(&text[..end]) {
+        complain(rt, "scan: standard output", error);
         return;
     }
-    io::write_all(STATUS_FILENO, &program_status::digit(n == 0));
+    tell_status(rt, n == 0);
 }
 
 // An argument of Linux has fewer than 131,072 bytes, so each comes whole, whatever zeros it begins with.
-fn decimal_at(i: usize) -> Numeral {
+fn decimal_at(env: &impl Env, i: usize) -> Numeral {
     let mut text = [0u8; 131072];
-    let n = os::arg(i, &mut text);
+    let n = argument(env, i, &mut text);
     program_arguments::decimal(&text[..n])
 }
 
-fn marker_at(i: usize) -> Numeral {
+fn marker_at(env: &impl Env, i: usize) -> Numeral {
     let mut text = [0u8; 8];
-    let n = os::arg(i, &mut text);
+    let n = argument(env, i, &mut text);
     program_arguments::eight_hex_digits(&text[..n])
 }
 
@@ -110,9 +111,9 @@ fn bytes_in(text: &[u8]) -> Bytes {
     Bytes::Number(value)
 }
 
-fn bytes_at(i: usize) -> Bytes {
+fn bytes_at(env: &impl Env, i: usize) -> Bytes {
     let mut text = [0u8; 131072];
-    let n = os::arg(i, &mut text);
+    let n = argument(env, i, &mut text);
     bytes_in(&text[..n])
 }
 
@@ -134,8 +135,8 @@ fn rest(from: u64) -> u64 {
 }
 
 // A whole capture, or a segment of one.
-fn read_segment(marker: u32, tolerance: u32, length: u32) -> Asked {
-    if os::arg_count() == 4 {
+fn read_segment(env: &impl Env, marker: u32, tolerance: u32, length: u32) -> Asked {
+    if !has_argument(env, 4) {
         return Asked::For(Task {
             marker,
             tolerance,
@@ -144,13 +145,13 @@ fn read_segment(marker: u32, tolerance: u32, length: u32) -> Asked {
             count: CAPTURE,
         });
     }
-    if os::arg_count() != 6 {
+    if !has_argument(env, 5) || has_argument(env, 6) {
         return Asked::Badly;
     }
-    let Bytes::Number(from) = bytes_at(4) else {
+    let Bytes::Number(from) = bytes_at(env, 4) else {
         return Asked::Badly;
     };
-    let Bytes::Number(count) = bytes_at(5) else {
+    let Bytes::Number(count) = bytes_at(env, 5) else {
         return Asked::Badly;
     };
     Asked::For(Task {
@@ -162,17 +163,17 @@ fn read_segment(marker: u32, tolerance: u32, length: u32) -> Asked {
     })
 }
 
-fn read_arguments() -> Asked {
-    let Numeral::Number(marker) = marker_at(1) else {
+fn read_arguments(env: &impl Env) -> Asked {
+    let Numeral::Number(marker) = marker_at(env, 1) else {
         return Asked::Badly;
     };
-    let Numeral::Number(tolerance) = decimal_at(2) else {
+    let Numeral::Number(tolerance) = decimal_at(env, 2) else {
         return Asked::Badly;
     };
-    let Numeral::Number(length) = decimal_at(3) else {
+    let Numeral::Number(length) = decimal_at(env, 3) else {
         return Asked::Badly;
     };
-    read_segment(marker, tolerance, length)
+    read_segment(env, marker, tolerance, length)
 }
 
 // The same at another state.
@@ -187,6 +188,7 @@ fn at_state(course: Course, state: u8) -> Course {
 
 // Writes the lines of what is met in what has come, a block at a time. A window of so many bits has fewer meetings than bits.
 fn put_meetings<'a>(
+    rt: &HostRuntime,
     window: &'a [u8],
     table: &'a [u64; 1280],
     out: &mut [u8],
@@ -210,7 +212,7 @@ fn put_meetings<'a>(
         );
         let used = put.used;
         let next = put.scan;
-        if !flushed(out, used) {
+        if !flushed(rt, out, used) {
             return at_state(course, FAILED);
         }
         course = Course {
@@ -248,6 +250,7 @@ fn stopped(course: Course, state: u8) -> Step
 
 // Hands over as much of a piece as is taken, and puts the lines of what it brought.
 fn take<'a>(
+    rt: &HostRuntime,
     window: &mut [u8],
     piece: &'a [u8],
     table: &'a [u64; 1280],
@@ -266,7 +269,7 @@ fn take<'a>(
         met: course.met,
         state: GOES_ON,
     };
-    let course = put_meetings(window, table, out, course, task);
+    let course = put_meetings(rt, window, table, out, course, task);
     if course.state == FAILED {
         return Step { bytes: 0, course };
     }
@@ -278,6 +281,7 @@ fn take<'a>(
 
 // Hands a piece on, as far as each call took it.
 fn hand_on<'a>(
+    rt: &HostRuntime,
     window: &mut [u8],
     piece: &'a [u8],
     table: &'a [u64; 1280],
@@ -288,7 +292,7 @@ fn hand_on<'a>(
     let mut course = course;
     let mut at = 0;
     while at < piece.len() {
-        let step = take(window, &piece[at..], table, out, course, task);
+        let step = take(rt, window, &piece[at..], table, out, course, task);
         let bytes = step.bytes;
         let next = step.course;
         if bytes == 0 {
@@ -301,19 +305,25 @@ fn hand_on<'a>(
 }
 
 // One read, which takes what there is, of at most as many bytes as are wanted.
-fn read_once(piece: &mut [u8], wanted: usize) -> Reading
+fn read_once(rt: &HostRuntime, piece: &mut [u8], wanted: usize) -> Reading
     ensures prefix_len { IsPrefixLen result.bytes piece.new }
     ensures bytes_le_wanted { result.bytes ≤ wanted }
 {
     let start = 0;
     let most = smallest(wanted, piece.len());
-    let got = libc::read(STDIN_FILENO, &mut piece[start..most]);
-    let failed = got < 0;
-    if failed {
-        os::fail(b"scan: standard input");
+    match rt.stdin().read(&mut piece[start..most]) {
+        Ok(bytes) => Reading {
+            bytes,
+            failed: false,
+        },
+        Err(error) => {
+            complain(rt, "scan: standard input", error);
+            Reading {
+                bytes: 0,
+                failed: true,
+            }
+        }
     }
-    let bytes = io::count(got, &piece[start..most]);
-    Reading { bytes, failed }
 }
 
 // How many bytes decide: those of the segment and what a frame and a marker take beyond them.
@@ -325,6 +335,7 @@ fn deciding(task: Task) -> usize {
 
 // Hands on what the next read brings. What was found is written by then, since a read may wait.
 fn turn<'a>(
+    rt: &HostRuntime,
     window: &mut [u8],
     piece: &mut [u8],
     table: &'a [u64; 1280],
@@ -335,7 +346,7 @@ fn turn<'a>(
 ) -> Step
     ensures { result.bytes ≤ left }
 {
-    let reading = read_once(piece, left);
+    let reading = read_once(rt, piece, left);
     let n = reading.bytes;
     if reading.failed {
         return stopped(course, FAILED);
@@ -343,7 +354,7 @@ fn turn<'a>(
     if n == 0 {
         return stopped(course, ENDED);
     }
-    let course = hand_on(window, &piece[..n], table, out, course, task);
+    let course = hand_on(rt, window, &piece[..n], table, out, course, task);
     if course.state == FAILED {
         return Step { bytes: 0, course };
     }
@@ -352,6 +363,7 @@ fn turn<'a>(
 
 // Reads what decides, and no more.
 fn run<'a>(
+    rt: &HostRuntime,
     window: &mut [u8],
     piece: &mut [u8],
     table: &'a [u64; 1280],
@@ -361,7 +373,7 @@ fn run<'a>(
     let mut course = begun();
     let mut left = deciding(task);
     while left > 0 {
-        let step = turn(window, piece, table, out, course, task, left);
+        let step = turn(rt, window, piece, table, out, course, task, left);
         let bytes = step.bytes;
         let next = step.course;
         course = next;
@@ -399,11 +411,11 @@ fn last(course: Course, task: Task) -> u8 {
     }
 }
 
-fn finish(course: Course, task: Task) {
+fn finish(rt: &HostRuntime, course: Course, task: Task) {
     if course.state == FAILED {
         return;
     }
-    report(last(course, task));
+    report(rt, last(course, task));
 }
 
 fn begun() -> Course {
@@ -414,23 +426,22 @@ fn begun() -> Course {
     }
 }
 
-fn main() {
-    let Asked::For(task) = read_arguments() else {
-        io::write_all(
-            STDERR_FILENO,
-            b"scan: expected a marker of eight hex digits, a tolerance and a frame length in decimal, both below 4294967296; for a segment also its first byte and how many it has\n",
+fn main(rt: HostRuntime) {
+    let Asked::For(task) = read_arguments(&rt) else {
+        let _ = eprintln!(rt;
+            "scan: expected a marker of eight hex digits, a tolerance and a frame length in decimal, both below 4294967296; for a segment also its first byte and how many it has"
         );
         return;
     };
     let refused = finder_windows::barred(task.tolerance, task.length);
     if refused != 0 {
-        report(refused);
+        report(&rt, refused);
         return;
     }
     let table = finder_columns::columns(task.marker, task.tolerance);
     let mut window = [0u8; 139264];
     let mut piece = [0u8; 65536];
     let mut out = [0u8; 65536];
-    let course = run(&mut window, &mut piece, &table, &mut out, task);
-    finish(course, task);
+    let course = run(&rt, &mut window, &mut piece, &table, &mut out, task);
+    finish(&rt, course, task);
 }

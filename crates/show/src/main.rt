@@ -2,31 +2,29 @@
 // and where that is not what the calculator's definition gives, what it gives; then the line that `replay` writes.
 #![tactic(auto)]
 
-use libc::{STDERR_FILENO, STDOUT_FILENO};
-use program_status::STATUS_FILENO;
+use program_system::{complain, has_argument, tell_status};
 
-fn main() {
-    if os::arg_count() > 1 {
-        io::write_all(
-            STDERR_FILENO,
-            b"show: takes no arguments, it reads a recording from standard input: ./show < RECORDING\n",
+fn main(rt: HostRuntime) {
+    if has_argument(&rt, 1) {
+        let _ = eprintln!(rt;
+            "show: takes no arguments, it reads a recording from standard input: ./show < RECORDING"
         );
         return;
     }
     // "above 37 blocks": one byte above decides, so no more than that is read.
     let mut file = [0u8; 18945];
-    let reading = program_input::read_to(&mut file);
-    if reading.failed {
-        os::fail(b"show: standard input");
+    let reading = program_input::read_to(&mut rt.stdin(), &mut file);
+    if let Some(error) = reading.failed {
+        complain(&rt, "show: standard input", error);
         return;
     }
     let n = reading.bytes;
     let mut out = [0u8; 131072];
     let written = program_show::show(&file[..n], &mut out);
-    if !io::write_all(STDOUT_FILENO, &out[..written]) {
-        os::fail(b"show: standard output");
+    if let Err(error) = rt.write_all(&out[..written]) {
+        complain(&rt, "show: standard output", error);
         return;
     }
     let good = program_status::is_good(&out[..written]);
-    io::write_all(STATUS_FILENO, &program_status::digit(good));
+    tell_status(&rt, good);
 }
