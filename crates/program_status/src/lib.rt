@@ -16,7 +16,7 @@ fn ends_in(text: &[u8], end: &[u8]) -> bool
         return false;
     }
     let from = text.len() - end.len();
-    check::same(&text[from..], end)
+    &text[from..] == end
 }
 
 // Whether what a program wrote is no refusal and no finding against its input.
