@@ -1,18 +1,16 @@
 -- Two answers that meet the promise of `seek` tell the same: a meeting at the same place with the same distances, or that there is none. Assumes nothing.
 use mathlib.Core.Path.{◌≡◌, refl, sym, ap, ◌∙◌}
 use mathlib.Core.Bool.{Bool, true, false}
-use mathlib.Core.List.{List, [], ◌∷◌, ◌++◌, append_assoc}
-use Prim.Native.Nat.{ℕ, ◌+◌, ◌*◌, ◌-◌, ◌<◌, ◌≤◌}
-use native.Mathlib.Nat.{zero-add}
+use mathlib.Core.List.{List, [], ◌∷◌, ◌++◌}
+use Prim.Native.Nat.{ℕ, ◌+◌, ◌-◌, ◌≤◌}
 use native.Mathlib.Omega.{arith}
 use borrow.Author.Tests.{ltb-true, ltb-false}
 use lib.Dec.{ltb}
 use lib.ListN.{length, length-append}
 use Rattle.finder_windows.specs.Definition.{bits, marker_bits}
-use Rattle.finder_windows.proofs.Bits.{length_bits}
-use Rattle.capture_meetings.specs.Meetings.{Meeting, met, all_from, places, meetings}
+use Rattle.capture_meetings.specs.Meetings.{Meeting, met, all_from}
 use Rattle.capture_meetings.proofs.Laws.{parts}
-use Rattle.capture_history.specs.State.{place, Stands, given, Told}
+use Rattle.capture_history.specs.State.{place, given, Told}
 use Rattle.capture_history.specs.declared.Scan.{Scan}
 use Rattle.capture_history.specs.declared.Next.{Next}
 

@@ -1,11 +1,11 @@
 -- Any run of calls: whatever pieces are fed and whenever meetings are asked for, what was met is what the definition gives. Assumes nothing.
-use mathlib.Core.Path.{◌≡◌, refl, sym, ap, ◌∙◌}
+use mathlib.Core.Path.{◌≡◌, sym, ap, ◌∙◌}
 use mathlib.Core.List.{List, [], ◌∷◌, ◌++◌}
-use Prim.Native.Nat.{ℕ, ◌+◌, ◌*◌, ◌-◌, ◌≤◌}
+use Prim.Native.Nat.{ℕ}
 use native.Mathlib.Omega.{arith}
-use lib.ListN.{length, take}
+use lib.ListN.{take}
 use Rattle.finder_windows.specs.Definition.{bits, marker_bits}
-use Rattle.capture_meetings.specs.Meetings.{Meeting, met, all_from, places, meetings}
+use Rattle.capture_meetings.specs.Meetings.{Meeting, met, all_from, meetings}
 use Rattle.capture_history.specs.State.{place, Stands, given, Told, Taken}
 use Rattle.capture_history.specs.declared.Scan.{Scan}
 use Rattle.capture_history.specs.declared.Next.{Next}

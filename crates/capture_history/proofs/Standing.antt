@@ -1,16 +1,16 @@
 -- What a window and its three numbers stand for, from one call to the next. Assumes nothing.
 use mathlib.Core.Path.{◌≡◌, refl, sym, ap, ◌∙◌}
-use mathlib.Core.Bool.{Bool, true, false, cond}
-use mathlib.Core.List.{List, [], ◌∷◌, ◌++◌, append_assoc, append-nil}
+use mathlib.Core.Bool.{Bool, true, false}
+use mathlib.Core.List.{List, [], ◌∷◌, ◌++◌, append-nil}
 use Prim.Native.Nat.{ℕ, zero, suc, ◌+◌, ◌-◌, ◌*◌, ◌/◌, ◌%◌, ◌<◌, ◌≤◌, zero-le}
 use native.Mathlib.Nat.{zero-add}
 use native.Mathlib.Omega.{arith}
-use lib.ListN.{length, take, drop, get_or, length-append, length-take, length-drop, take-append-drop}
+use lib.ListN.{length, take, drop, get_or, length-append, length-drop, take-append-drop}
 use lib.Seq.{drop_at, drop-drop, length-take-le, take_at, drop-append-le, paste, take-paste, length-paste, get_or-append-add, get_or-drop}
-use Rattle.finder_windows.specs.Definition.{bits, marker_bits, window, distance, Answer, found, refused, stands, first_from}
+use Rattle.finder_windows.specs.Definition.{bits, marker_bits, window, distance, found, refused, stands, first_from}
 use Rattle.finder_windows.proofs.Bits.{bits_append, length_bits}
 use Rattle.capture_meetings.specs.Meetings.{Meeting, met, all_from, places, meetings, shift, first_of}
-use Rattle.capture_history.specs.State.{place, Stands, given, Told, Kept, Taken}
+use Rattle.capture_history.specs.State.{place, Stands, given, Told, Kept}
 use Rattle.capture_history.specs.declared.Scan.{Scan}
 use Rattle.capture_history.specs.declared.Next.{Next}
 use Rattle.capture_meetings.proofs.Laws.{shift_zero, window_before, window_after, parts, agree}

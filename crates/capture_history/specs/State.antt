@@ -1,5 +1,5 @@
 -- What a window and three numbers stand for: a capture, as far as it has come and as far as it has been searched.
-use Rattle.std.specs.Prelude.{ℕ, ◌+◌, ◌-◌, ◌*◌, ◌/◌, ◌<◌, ◌≤◌, ◌≡◌, List, [], ◌∷◌, ◌++◌, length, take, drop}
+use Rattle.std.specs.Prelude.{ℕ, ◌+◌, ◌*◌, ◌/◌, ◌<◌, ◌≤◌, ◌≡◌, List, [], ◌∷◌, ◌++◌, length, take, drop}
 use Rattle.finder_windows.specs.Definition.{bits, marker_bits}
 use Rattle.capture_meetings.specs.Meetings.{Meeting, met, all_from, places, meetings}
 use Rattle.capture_history.specs.declared.Scan.{Scan}
