@@ -1,5 +1,4 @@
 -- `lane_float_sums::fdiv64` meets its contract. Assumes nothing.
-use borrow.Author.Rules.{rules}
 use mathlib.Core.Path.{◌≡◌, refl, sym, ap₂, ◌∙◌, subst}
 use mathlib.Core.Bool.{Bool, true, false, not, cond, ◌||◌}
 use Prim.Native.Nat.{ℕ}
@@ -7,8 +6,7 @@ use lib.Dec.{T}
 use lib.Ieee.{binary64, nan, div, of_bits, to_bits, nan_bits}
 use Rattle.lane_float.proofs.FloatOrder.{ordered}
 use Rattle.lane_float_sums.proofs.Absorb.{absorbed, div_absorbs}
-use Rattle.lane_float_sums.proofs.fdiv64.Statement.{statement}
-use Rattle.lane_float_sums.proofs.fdiv64.Tie as tie
+use Rattle.lane_float_sums.proofs.fdiv64.Goals as goal
 
 -- with a NaN both are zeros, whose quotient is a NaN
 zero_is_number : T (not (nan_bits binary64 0))
@@ -37,33 +35,16 @@ module _ (a b : ℕ) (t : Bool) (e : t ≡ not (nan_bits binary64 a || nan_bits 
           zeros r (h ∙ ap₂ (λ (m n : ℕ). to_bits binary64 (div binary64 (of_bits binary64 m) (of_bits binary64 n))) (p ∙ rw g) (q ∙ rw g))
           ∙ absorbed binary64 a b e (div binary64) (div_absorbs binary64) g
 
-ordered64-requires : tie.Need-ordered64-requires
-ordered64-requires c κs = search rules
+pub float_from_bits-pick64 : goal.float_from_bits-pick64
+float_from_bits-pick64 c = number c.args.a c.args.b c.ordered64-numbers.result
+    c.ordered64-numbers.ensures c.args.a (λ h. (ordered binary64 _ _ c.ordered64-numbers.ensures h).0) c.pick64.ensures
 
-pick64-requires : tie.Need-pick64-requires
-pick64-requires c κs = search rules
+pub float_from_bits-pick64-2 : goal.float_from_bits-pick64-2
+float_from_bits-pick64-2 c = number c.args.a c.args.b c.ordered64-numbers.result
+    c.ordered64-numbers.ensures c.args.b (λ h. (ordered binary64 _ _ c.ordered64-numbers.ensures h).1)
+    c.pick64-2.ensures
 
-float-from-bits-pattern64 : tie.Need-float-from-bits-pattern64
-float-from-bits-pattern64 c = number c.before.before.args.a c.before.before.args.b c.before.ordered64.result
-    c.before.ordered64.ensures c.before.before.args.a (λ h. (ordered binary64 _ _ c.before.ordered64.ensures h).0) c.pick64.ensures
-
-pick64-requires-2 : tie.Need-pick64-requires-2
-pick64-requires-2 c κs = search rules
-
-float-from-bits-pattern64-2 : tie.Need-float-from-bits-pattern64-2
-float-from-bits-pattern64-2 c = number c.before.before.before.args.a c.before.before.before.args.b c.before.before.ordered64.result
-    c.before.before.ordered64.ensures c.before.before.before.args.b (λ h. (ordered binary64 _ _ c.before.before.ordered64.ensures h).1)
-    c.pick642.ensures
-
-pattern64-requires : tie.Need-pattern64-requires
-pattern64-requires c κs = search rules
-
-returns : tie.Need-returns
-returns c = quotient c.before.before.before.before.args.a c.before.before.before.before.args.b
-    c.before.before.before.ordered64.result c.before.before.before.ordered64.ensures c.before.before.pick64.ensures
-    c.before.pick642.ensures c.pattern64.ensures
-
-pub fdiv64-spec : {M : Type 1} → statement M
-fdiv64-spec =
-    tie.close
-    (tie.spec ordered64-requires pick64-requires float-from-bits-pattern64 pick64-requires-2 float-from-bits-pattern64-2 pattern64-requires returns)
+pub returns : goal.returns
+returns c = quotient c.args.a c.args.b
+    c.ordered64-numbers.result c.ordered64-numbers.ensures c.pick64.ensures
+    c.pick64-2.ensures c.pattern64.ensures
