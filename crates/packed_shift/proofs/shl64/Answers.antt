@@ -1,0 +1,10 @@
+-- `packed_shift::shl64` meets its contract: the half is one lane. Assumes nothing.
+use mathlib.Core.Path.{sym}
+use Rattle.standard.specs.Integer.{ishl}
+use Rattle.packed_half.specs.Half.{half_unary}
+use Rattle.packed_half.proofs.Whole.{one_lane}
+use Rattle.packed_shift.proofs.shl64.Goals as goal
+
+pub returns : goal.returns
+unfolding half_unary
+returns c = sym (one_lane 64 64 (ishl 64 c.args.count) _ c.ranges.a.fits)
