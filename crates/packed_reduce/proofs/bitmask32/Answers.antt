@@ -3,16 +3,14 @@ use borrow.Author.Rules.{rules}
 use lib.Dec.{lit<}
 use Rattle.packed_half.specs.Half.{half_bitmask}
 use Rattle.packed_half.proofs.Signs.{gathered_is, lowest}
-use Rattle.packed_reduce.proofs.bitmask32.Statement.{statement}
-use Rattle.packed_reduce.proofs.bitmask32.Tie as tie
+use Rattle.packed_reduce.proofs.bitmask32.Goals as goal
 
-returns : tie.Need-returns
+pub returns : goal.returns
 unfolding half_bitmask
 returns c = gathered_is 31 1 c.args.a (lit< tt)
 
-pub bitmask32-spec : {M : Type 1} → statement M
-bitmask32-spec =
-    tie.close
-    (tie.spec
-    (λ c. rw lowest (search rules)) (λ c. rw lowest (search rules))
-    returns)
+pub overflow_cast-mask : goal.overflow_cast-mask
+overflow_cast-mask c = rw lowest (search rules)
+
+pub overflow_cast-mask-2 : goal.overflow_cast-mask-2
+overflow_cast-mask-2 c = rw lowest (search rules)

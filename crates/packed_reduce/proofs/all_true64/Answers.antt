@@ -3,12 +3,8 @@ use lib.Dec.{eqb}
 use native.Mathlib.Nat.{mod-eq_of_lt}
 use Rattle.packed_half.specs.Half.{half_all_true}
 use Rattle.packed_half.proofs.Whole.{not_test}
-use Rattle.packed_reduce.proofs.all_true64.Statement.{statement}
-use Rattle.packed_reduce.proofs.all_true64.Tie as tie
+use Rattle.packed_reduce.proofs.all_true64.Goals as goal
 
-returns : tie.Need-returns
+pub returns : goal.returns
 unfolding half_all_true
 returns c = rw (mod-eq_of_lt c.ranges.a.fits) (not_test (eqb c.args.a 0))
-
-pub all-true64-spec : {M : Type 1} → statement M
-all-true64-spec = tie.close (tie.spec returns)
