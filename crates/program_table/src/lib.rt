@@ -24,7 +24,7 @@ pub fn find(lines: &[u8], line: &[u8]) -> usize
     let mut n = 0;
     loop {
         let end = program_words::scan(lines, at, Stop::Line);
-        if check::same(&lines[at..end], line) {
+        if &lines[at..end] == line {
             return n;
         }
         n += 1;
