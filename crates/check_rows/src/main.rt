@@ -116,7 +116,7 @@ fn differs(record: &[u8; 1924]) -> bool {
         || !same(&first, &singly(op, vectors(record), was, second))
 }
 
-#[derive(Drop)]
+#[derive(Clone, Copy)]
 struct Counts {
     records: u64,
     vectors: u64,

@@ -10,7 +10,7 @@ use program_arguments::Numeral;
 use program_system::{argument, complain, has_argument, tell_status};
 use std::rt::Env;
 
-#[derive(Drop)]
+#[derive(Clone, Copy)]
 struct Task {
     place: u32,
     limit: u32,

@@ -11,7 +11,7 @@ use program_arguments::Numeral;
 use program_system::{argument, complain, has_argument, tell_status};
 use std::rt::Env;
 
-#[derive(Drop)]
+#[derive(Clone, Copy)]
 struct Task {
     marker: u32,
     tolerance: u32,

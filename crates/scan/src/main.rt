@@ -15,7 +15,7 @@ use std::rt::Env;
 // How many bytes a capture may have.
 const CAPTURE: u64 = 1152921504606846976;
 
-#[derive(Drop)]
+#[derive(Clone, Copy)]
 struct Task {
     marker: u32,
     tolerance: u32,
@@ -44,7 +44,7 @@ const ENDED: u8 = 1;
 const FAILED: u8 = 2;
 
 // How far the scan has come, whether anything was met, and whether more is to be read.
-#[derive(Drop)]
+#[derive(Clone, Copy)]
 struct Course {
     scan: Scan,
     met: bool,
@@ -228,14 +228,14 @@ fn put_meetings<'a>(
     course
 }
 
-#[derive(Drop)]
+#[derive(Clone, Copy)]
 struct Reading {
     bytes: usize,
     failed: bool,
 }
 
 // How many bytes went on, and how far the scan then has come; none where it does not go on.
-#[derive(Drop)]
+#[derive(Clone, Copy)]
 struct Step {
     bytes: usize,
     course: Course,
