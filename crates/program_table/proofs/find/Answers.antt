@@ -42,8 +42,11 @@ unfolding place
 returns-then-end-lines c =
     let at = c.loop-line in
     let same = slice_eq-Decides Decides-eqb (take (c.scan-end.result - at.at) (drop at.at c.args.lines.now)) c.args.line.now _ c.eq.ensures in
+    let other :
+    take (c.scan-end.result - at.at) (drop at.at c.args.lines.now) ≡ c.args.line.now → ⊥ =
+    λ e. false≢true (sym c.if-eq.false ∙ same.1 e) in
     let scan = scanned newline _ _ _ c.loop-line.invariant.0 c.scan-end.ensures in
-    sym (at.invariant.2 ∙ rw (last_piece newline _ _ _ scan (omega arith), place_later _ _ _ (λ e. false≢true (sym c.if-eq.false ∙ same.1 e))) (omega arith))
+    sym (at.invariant.2 ∙ rw (last_piece newline _ _ _ scan (omega arith), place_later _ _ _ other) (omega arith))
 
 pub overflow_add-at : goal.overflow_add-at
 overflow_add-at c = omega (arith, (scanned newline _ _ _ c.loop-line.invariant.0 c.scan-end.ensures).high)
@@ -57,8 +60,12 @@ pub loop-line-preserved : goal.loop-line-preserved
 loop-line-preserved c =
     let at = c.loop-line in
     let same = slice_eq-Decides Decides-eqb (take (c.scan-end.result - at.at) (drop at.at c.args.lines.now)) c.args.line.now _ c.eq.ensures in
+    let other :
+    take (c.scan-end.result - at.at) (drop at.at c.args.lines.now) ≡ c.args.line.now → ⊥ =
+    λ e. false≢true (sym c.if-eq.false ∙ same.1 e) in
     let scan = scanned newline _ _ _ c.loop-line.invariant.0 c.scan-end.ensures in (
       omega (arith, scan.high),
       omega (arith, scan.low),
-      at.invariant.2 ∙ rw (next_piece newline _ _ _ scan (omega (arith, scan.high, c.if-end-lines.false)), place_later _ _ _ (λ e. false≢true (sym c.if-eq.false ∙ same.1 e))) (omega arith),
+      at.invariant.2
+          ∙ rw (next_piece newline _ _ _ scan (omega (arith, scan.high, c.if-end-lines.false)), place_later _ _ _ other) (omega arith),
     )
