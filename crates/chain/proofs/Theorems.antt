@@ -19,7 +19,7 @@ use Rattle.standard.specs.Vector.{shuffle}
 use Rattle.standard.specs.Refusal.{given, refused, legal, at_indices}
 use Rattle.standard.proofs.Digits.{Below, length_digits, lanes_determine}
 use Rattle.standard.proofs.Halves.{map_append}
-use Rattle.chain.specs.Definition.{indices, partner, chained, all_legal, refusal, answered, applied, counted, low_places, high_places, folded, Does}
+use Rattle.chain.specs.Definition.{indices, partner, chained, all_legal, refusal, answered, applied, counted, low_places, high_places, folded}
 use Rattle.chain.specs.Definition.{OneShuffle}
 use Rattle.chain.proofs.Judging.{both, unrefused}
 use Rattle.chain.proofs.Lists.{partner_of, partner_has, picked_below, counted_below}
