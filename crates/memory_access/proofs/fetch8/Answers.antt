@@ -1,0 +1,12 @@
+-- `memory_access::fetch8` meets its contract. Assumes nothing.
+use Rattle.memory_bounds.proofs.Bounds.{reached, fetched, unfetched}
+use Rattle.memory_access.proofs.fetch8.Goals as goal
+
+pub read8-requires : goal.read8-requires
+read8-requires c = reached _ _ _ (rw c.in-At.is at c.reach.ensures)
+
+pub returns-in-At : goal.returns-in-At
+returns-in-At c = fetched _ _ _ (rw c.in-At.is at c.reach.ensures) c.read8.ensures
+
+pub returns-in-Past : goal.returns-in-Past
+returns-in-Past c = unfetched _ _ _ (rw c.in-Past.is at c.reach.ensures)

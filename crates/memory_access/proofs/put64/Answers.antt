@@ -1,0 +1,13 @@
+-- `memory_access::put64` meets its contract. Assumes nothing.
+use Rattle.memory_bounds.proofs.Bounds.{reached, put, unput}
+use Rattle.memory_access.proofs.put64.Goals as goal
+
+pub write64-requires : goal.write64-requires
+write64-requires c = reached _ _ _ (rw c.in-At.is at c.reach.ensures)
+
+pub returns-in-At : goal.returns-in-At
+returns-in-At c = put _ _ _ _ (rw c.in-At.is at
+    c.reach.ensures) c.write64.ensures
+
+pub returns-in-Past : goal.returns-in-Past
+returns-in-Past c = unput _ _ _ _ (rw c.in-Past.is at c.reach.ensures)
