@@ -1,0 +1,35 @@
+-- `lane_float_arithmetic::choose::pairs64` meets its contract: a loop over the lanes and the idle places. Assumes nothing.
+use borrow.Author.Rules.{rules}
+use mathlib.Core.Path.{◌≡◌, refl, sym, ap, ap₂, ◌∙◌}
+use mathlib.Core.List.{List, ◌∷◌, ◌++◌}
+use Prim.Native.Nat.{ℕ, ◌+◌, ◌*◌, ◌^◌, ◌<◌}
+use lib.ListN.{replicate}
+use Rattle.standard.specs.Lanes.{joined, lanes, binary}
+use Rattle.standard.proofs.Halves.{lanes_64, joined_64}
+use Rattle.standard.proofs.Loop.{turn, done}
+use Rattle.lane_float_arithmetic.proofs.choose.pairs64.Goals as goal
+
+with_idle : (a b : ℕ) → a < 2 ^ 64 → b < 2 ^ 64 → a ∷ b ∷ replicate 18 0 ≡ lanes 64 (a + 2 ^ 64 * b) ++ replicate 18 0
+with_idle a b h k = sym (ap (λ (l : List ℕ). l ++ replicate 18 0) (lanes_64 a b h k))
+
+pub loop-i-init : goal.loop-i-init
+loop-i-init c = (search rules, refl)
+
+pub loop-i-preserved : goal.loop-i-preserved
+loop-i-preserved c = (
+  search rules,
+  turn 64 18 _ _ _ (with_idle c.args.a c.args.b
+      c.ranges.a.fits c.ranges.b.fits)
+      (with_idle c.args.c c.args.d c.ranges.c.fits
+      c.ranges.d.fits) (search rules) c.loop-i.invariant.1 c.arithmetic64.ensures,
+)
+
+pub returns : goal.returns
+returns c =
+    ap (joined 64) c.lanes64.ensures
+    ∙ done 64 18 _ _ _ (with_idle c.args.a c.args.b c.ranges.a.fits
+    c.ranges.b.fits)
+    (with_idle c.args.c c.args.d c.ranges.c.fits
+    c.ranges.d.fits) c.loop-i.i (search rules) c.loop-i.invariant.1
+    ∙ ap₂ (binary 64 _) (joined_64 c.args.a c.args.b refl)
+    (joined_64 c.args.c c.args.d refl)
