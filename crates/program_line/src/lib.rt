@@ -1,7 +1,7 @@
 // One line of the text of a step list, read: the step that it stands for, or why it stands for none.
 #![tactic(auto)]
 
-ghost use Rattle.std.specs.Prelude.{◌+◌, ◌≤◌, ◌<◌, ◌≡◌, length, drop};
+ghost use Rattle.std.specs.Prelude.{◌+◌, ◌≤◌, ◌<◌, ◌≡◌, true, length, drop};
 ghost use Rattle.program_words.specs.Cut.{skip};
 ghost use Rattle.program_fields.specs.Values.{field_of};
 ghost use Rattle.program_forms.specs.Takes.{takes_of};
@@ -92,6 +92,12 @@ fn take_form(line: &[u8], r: Reading, t: Takes) -> Reading
     take_fields(line, with_lane, Field::Byte, t.bytes, 16)
 }
 
+fn same(a: &[u8], b: &[u8]) -> bool
+    ensures { (result ≡ true → a.now ≡ b.now) × (a.now ≡ b.now → result ≡ true) }
+{
+    a == b
+}
+
 // `packed_half` alone: mark 1; `packed_half` and a number: that mark. A blank stands before it, where bytes stand before it too.
 fn take_packed(line: &[u8], r: Reading) -> Reading
     requires { r.at ≤ length line.now }
@@ -106,7 +112,7 @@ fn take_packed(line: &[u8], r: Reading) -> Reading
         return r;
     }
     let end = program_words::scan(line, at, Stop::Blank);
-    if !check::same(&line[at..end], b"packed") {
+    if !same(&line[at..end], b"packed") {
         return r;
     }
     let next = program_words::scan(line, end, Stop::Word);
@@ -195,7 +201,7 @@ fn stated(line: &[u8]) -> Read
         };
     }
     let end = program_words::scan(line, at, Stop::Blank);
-    if check::same(&line[at..end], b"step") {
+    if same(&line[at..end], b"step") {
         let start = Reading {
             at: end,
             reason: 0,

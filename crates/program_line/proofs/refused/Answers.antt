@@ -2,11 +2,7 @@
 use mathlib.Core.Path.{refl}
 use native.Mathlib.Omega.{arith}
 use borrow.Author.Tests.{ne_eqb}
-use Rattle.program_line.proofs.refused.Statement.{statement}
-use Rattle.program_line.proofs.refused.Tie as tie
+use Rattle.program_line.proofs.refused.Goals as goal
 
-returns : tie.Need-returns
+pub returns : goal.returns
 returns c = record { says = rw (ne_eqb c.args.reason 0 (λ e. omega arith)); whole = refl }
-
-pub refused-spec : {M : Type 1} → statement M
-refused-spec = tie.close (tie.spec returns)
