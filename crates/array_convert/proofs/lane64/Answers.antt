@@ -1,0 +1,21 @@
+-- `array_convert::lane64` meets its contract: each arm by its callee's promise, at the number that led there. Assumes nothing.
+use lib.Ieee.{binary64}
+use Rattle.array_convert.specs.Reformat.{roundings}
+use Rattle.standard.proofs.Match.{no_unary}
+use Rattle.std.proofs.Common.{◌≤◌, arith}
+use Rattle.array_convert.proofs.lane64.Goals as goal
+
+pub returns-in-0 : goal.returns-in-0
+returns-in-0 c = rw c.in-0.is c.fceil64.ensures
+
+pub returns-in-1 : goal.returns-in-1
+returns-in-1 c = rw c.in-1.is c.ffloor64.ensures
+
+pub returns-in-2 : goal.returns-in-2
+returns-in-2 c = rw c.in-2.is c.ftrunc64.ensures
+
+pub returns-in-3 : goal.returns-in-3
+returns-in-3 c = rw c.in-3.is c.fnearest64.ensures
+
+pub returns-in_default : goal.returns-in_default
+returns-in_default c = let h : 4 ≤ c.args.op = omega arith in no_unary (roundings binary64) _ _ h
