@@ -1,22 +1,14 @@
 -- `marker::is_decided` meets its contract. Assumes nothing.
 use mathlib.Core.List.{[]}
 use mathlib.Core.Path.{sym, ◌∙◌}
-use borrow.Author.Rules.{rules}
 use borrow.Author.Tests.{eqb-false, not-true}
 use lib.Dec.{eqb}
 use Rattle.finder_windows.proofs.Theorems.{arguments_decide}
-use Rattle.marker.proofs.is_decided.Statement.{statement}
-use Rattle.marker.proofs.is_decided.Tie as tie
+use Rattle.marker.proofs.is_decided.Goals as goal
 
-barred-requires : tie.Need-barred-requires
-barred-requires c κs = search rules
-
-returns : tie.Need-returns
+pub returns : goal.returns
 returns c e bytes =
-    let given = c.before.args.task in
+    let given = c.args.task in
     let n = c.barred.result in
     let decided = arguments_decide given.marker given.tolerance given.length (λ z. eqb-false n 0 (not-true (eqb n 0) e) (c.barred.ensures ∙ z)) in
     decided bytes ∙ sym (decided [])
-
-pub is-decided-spec : {M : Type 1} → statement M
-is-decided-spec = tie.close (tie.spec barred-requires returns)
