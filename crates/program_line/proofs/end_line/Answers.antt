@@ -15,13 +15,15 @@ returns-then-reason-ne0 c =
 pub returns-then-scan-line : goal.returns-then-scan-line
 returns-then-scan-line c =
     let given = c.args in
+    let found = scanned solid _ _ _ c.requires c.scan.ensures in
     read_as
-    (ends_more given.line.now given.r.at given.r.reason given.r.step (search rules) _ c.scan.ensures (scanned solid _ _ _ c.requires c.scan.ensures) (search rules))
+    (ends_more given.line.now given.r.at given.r.reason given.r.step (search rules) _ c.scan.ensures found (search rules))
     c.refused-then-scan-line.ensures
 
 pub returns : goal.returns
 returns c =
     let given = c.args in
+    let found = scanned solid _ _ _ c.requires c.scan.ensures in
     read_as
-    (ends_step given.line.now given.r.at given.r.reason given.r.step (search rules) _ c.scan.ensures (scanned solid _ _ _ c.requires c.scan.ensures) (search rules))
+    (ends_step given.line.now given.r.at given.r.reason given.r.step (search rules) _ c.scan.ensures found (search rules))
     (record { says = refl; whole = refl })
