@@ -45,7 +45,7 @@ pub fn put(out: &mut [u8], s: &[u8], lo: u64, hi: u64, refused: u8, kind: u8, bi
 {
     if out.len() == 64 {
         if s.len() == 32 {
-            bytes::copy(s, out);
+            out[..32].copy_from_slice(s);
             put_word(out, 32, lo);
             put_word(out, 40, hi);
             put_word(out, 48, ending_word(refused, kind));
