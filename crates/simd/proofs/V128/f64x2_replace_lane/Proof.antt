@@ -1,9 +1,0 @@
--- `simd::V128::f64x2_replace_lane` meets its contract. Assumes nothing.
-use Rattle.simd.proofs.V128.f64x2_replace_lane.Statement.{statement}
-use Rattle.simd.proofs.V128.f64x2_replace_lane.Tie as tie
-
-returns : tie.Need-returns
-returns c = rw (← c.before.to-bits.ensures) c.replace64.ensures
-
-pub f64x2-replace-lane-spec : {M : Type 1} → statement M
-f64x2-replace-lane-spec = tie.close (tie.spec (λ c κs. tt) (λ c κs. tt) returns)

@@ -1,0 +1,13 @@
+-- `simd::V128::float_unary32` meets its contract: a loop over the lanes and the idle places. Assumes nothing.
+use Prim.Native.Nat.{◌≤◌, ◌-◌}
+use mathlib.Core.Path.{◌≡◌}
+use lib.Ieee.{binary32}
+use Rattle.array_lanewise_float.specs.LanewiseFloat.{float_unary_of}
+use Rattle.standard.proofs.Loop.{zip_to}
+use Rattle.simd.proofs.V128.float_unary32.Given as goal
+
+abbrev pub invariant-loop-i : goal.invariant-loop-i
+invariant-loop-i l = (l.i ≤ 64) × (l.a ≡ zip_to (λ x y. float_unary_of binary32 l.op x) l.i l.initial.a l.initial.a)
+
+abbrev pub decreases-loop-i : goal.decreases-loop-i
+decreases-loop-i l = 64 - l.i

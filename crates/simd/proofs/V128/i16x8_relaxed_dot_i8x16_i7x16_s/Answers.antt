@@ -1,0 +1,7 @@
+-- `simd::V128::i16x8_relaxed_dot_i8x16_i7x16_s` meets its contract. Assumes nothing.
+use mathlib.Core.Path.{◌∙◌}
+use Rattle.standard.proofs.Pairs.{dot_8}
+use Rattle.simd.proofs.V128.i16x8_relaxed_dot_i8x16_i7x16_s.Goals as goal
+
+pub returns : goal.returns
+returns c = c.binary16.ensures ∙ dot_8 _ _

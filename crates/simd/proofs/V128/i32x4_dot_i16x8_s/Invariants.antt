@@ -1,0 +1,12 @@
+-- `simd::V128::i32x4_dot_i16x8_s` meets its contract: a loop over the lanes and the idle places. Assumes nothing.
+use Prim.Native.Nat.{◌≤◌, ◌-◌}
+use mathlib.Core.Path.{◌≡◌}
+use Rattle.array_lanewise.specs.Lanewise.{binaries32, binary_of}
+use Rattle.standard.proofs.Loop.{zip_to}
+use Rattle.simd.proofs.V128.i32x4_dot_i16x8_s.Given as goal
+
+abbrev pub invariant-loop-i : goal.invariant-loop-i
+invariant-loop-i l = (l.i ≤ 32) × (l.a ≡ zip_to (binary_of binaries32 17) l.i l.initial.a l.b)
+
+abbrev pub decreases-loop-i : goal.decreases-loop-i
+decreases-loop-i l = 32 - l.i

@@ -1,0 +1,6 @@
+-- `simd::V128::i64x2_replace_lane` meets its contract. Assumes nothing.
+use mir.Facts.{to_z-of_z}
+use Rattle.simd.proofs.V128.i64x2_replace_lane.Goals as goal
+
+pub returns : goal.returns
+returns c = rw (← to_z-of_z c.ranges.item, ← c.unsigned64.ensures) c.replace64.ensures

@@ -1,0 +1,6 @@
+-- `simd::V128::i8x16_replace_lane` meets its contract. Assumes nothing.
+use mir.Facts.{to_z-of_z}
+use Rattle.simd.proofs.V128.i8x16_replace_lane.Goals as goal
+
+pub returns : goal.returns
+returns c = rw (← to_z-of_z c.ranges.item, ← c.unsigned8.ensures) c.replace8.ensures
