@@ -14,7 +14,7 @@ fn put_difference(out: &mut [u8], at: usize, r: &[u8], d: &[u8]) -> usize
     requires d_len { length d.now ≡ 64 }
     ensures { Wrote out.old at (difference r.now d.now) out.new result }
 {
-    if check::same(&r[32..], &d[32..]) {
+    if &r[32..] == &d[32..] {
         return at;
     }
     let next = put(out, at, b"  the definition gives\n");
