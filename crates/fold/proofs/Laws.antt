@@ -1,11 +1,11 @@
 -- One link more, one byte more of a link. Assumes nothing.
 use mathlib.Core.Path.{◌≡◌, refl, sym, ap, ap₂, ◌∙◌}
-use mathlib.Core.List.{List, [], ◌∷◌, ◌++◌, append_assoc}
-use Prim.Native.Nat.{ℕ, zero, suc, ◌+◌, ◌*◌, ◌/◌, ◌%◌, ◌<◌, ◌≤◌}
+use mathlib.Core.List.{List, [], ◌∷◌, ◌++◌}
+use Prim.Native.Nat.{ℕ, zero, suc, ◌+◌, ◌*◌, ◌<◌}
 use native.Mathlib.Numerals.{add-one}
 use native.Mathlib.Omega.{arith}
-use lib.ListN.{length, get_or, set, take, drop, length-set, length-drop}
-use lib.Seq.{take-suc, take_all, take-suc-set, take-set-le, get_or-drop, drop-drop}
+use lib.ListN.{length, get_or, set, take, drop, length-drop}
+use lib.Seq.{take-suc, take-suc-set, get_or-drop, drop-drop}
 use Rattle.fold.specs.Text.{links}
 
 -- a list filled from its start, by one more element

@@ -1,5 +1,4 @@
 -- `fold::answer` meets its contract. Assumes nothing.
-use borrow.Author.Rules.{rules}
 use native.Mathlib.Omega.{arith}
 use lib.ListN.{length-take}
 use Rattle.fold.specs.Text.{text}
@@ -11,15 +10,15 @@ slice_bounds-fold-end c = omega (
   length-take c.links_in-count.result
       c.links_of-links.result,
   c.links_of-links.type_inv,
-  c.links_in-count.ensures.1,
+  c.links_in-count.ensures.upper_bound,
 )
 
 pub returns : goal.returns
 unfolding text
 returns c =
     rw (
-      ← c.links_in-count.ensures.0,
+      ← c.links_in-count.ensures.value,
       ← c.links_of-links.ensures,
-      ← c.fold-refused.ensures.0,
-      ← c.fold-refused.ensures.1.0,
+      ← c.fold-refused.ensures.value,
+      ← c.fold-refused.ensures.out_after,
     ) c.fold.ensures

@@ -1,11 +1,7 @@
 -- `fold::link_at` meets its contract: a byte a turn. Assumes nothing.
 use Prim.Native.Nat.{◌≤◌, ◌-◌, ◌*◌}
-use mathlib.Core.Path.{◌≡◌, refl, sym, ◌∙◌}
-use native.Mathlib.Omega.{arith}
-use lib.ListN.{length, take, drop, length-set}
-use lib.Seq.{take_all}
-use Rattle.fold.proofs.Laws.{byte_more}
-use borrow.Author.Rules.{rules}
+use mathlib.Core.Path.{◌≡◌}
+use lib.ListN.{length, take, drop}
 use Rattle.fold.proofs.link_at.Given as goal
 
 abbrev pub invariant-loop-j : goal.invariant-loop-j

@@ -4,7 +4,7 @@ use borrow.Author.Tests.{lt-ltb, le-ltb}
 use Rattle.fold.proofs.links_in.Goals as goal
 
 pub returns-then-n-lt-DECIDES : goal.returns-then-n-lt-DECIDES
-returns-then-n-lt-DECIDES c = (simp (lt-ltb _ _ c.if-n-lt-DECIDES.true), search rules)
+returns-then-n-lt-DECIDES c = record { value = simp (lt-ltb _ _ c.if-n-lt-DECIDES.true); upper_bound = search rules }
 
 pub returns-else-n-lt-DECIDES : goal.returns-else-n-lt-DECIDES
-returns-else-n-lt-DECIDES c = (simp (le-ltb _ _ c.if-n-lt-DECIDES.false), search rules)
+returns-else-n-lt-DECIDES c = record { value = simp (le-ltb _ _ c.if-n-lt-DECIDES.false); upper_bound = search rules }

@@ -1,8 +1,7 @@
 -- `fold::links_of` meets its contract: a link a turn. Assumes nothing.
-use Prim.Native.Nat.{◌≤◌, ◌-◌}
 use mathlib.Core.Path.{◌≡◌, refl, sym, ◌∙◌}
 use native.Mathlib.Omega.{arith}
-use lib.ListN.{length, take, length-set}
+use lib.ListN.{length-set}
 use lib.Seq.{take_all}
 use Rattle.fold.specs.Text.{links}
 use Rattle.fold.proofs.Laws.{links_more}

@@ -1,12 +1,8 @@
 -- `fold::links_of` meets its contract: a link a turn. Assumes nothing.
 use Prim.Native.Nat.{◌≤◌, ◌-◌}
-use mathlib.Core.Path.{◌≡◌, refl, sym, ◌∙◌}
-use native.Mathlib.Omega.{arith}
-use lib.ListN.{length, take, length-set}
-use lib.Seq.{take_all}
+use mathlib.Core.Path.{◌≡◌}
+use lib.ListN.{length, take}
 use Rattle.fold.specs.Text.{links}
-use Rattle.fold.proofs.Laws.{links_more}
-use borrow.Author.Rules.{rules}
 use Rattle.fold.proofs.links_of.Given as goal
 
 abbrev pub invariant-loop-k : goal.invariant-loop-k
