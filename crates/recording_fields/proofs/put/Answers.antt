@@ -50,10 +50,12 @@ slice_bounds-copy_from_slice-end-then-s-eq32 c = omega (arith, length-take-le 32
 pub returns-then-s-eq32 : goal.returns-then-s-eq32
 returns-then-s-eq32 c =
     let a = c.args in
-    all_written a.out.now a.s.now (c.copy_from_slice.new.self ++ drop 32 c.args.out.now) c.put_word.new.out c.put_word-then-s-eq32.new.out c.put_word-then-s-eq32-2.new.out
+    all_written a.out.now a.s.now (c.copy_from_slice.new.self ++ drop 32 c.args.out.now) c.put_word.new.out
+    c.put_word-then-s-eq32.new.out c.put_word-then-s-eq32-2.new.out
     c.put_word-then-s-eq32-3.new.out
     a.lo a.hi c.ending_word.result c.scalar_word.result c.if-out-eq64.true c.if-s-eq32.true
-    (ap (λ (l : List ℕ). l ++ drop 32 c.args.out.now) c.copy_from_slice.ensures.after) c.put_word.ensures c.put_word-then-s-eq32.ensures c.put_word-then-s-eq32-2.ensures c.put_word-then-s-eq32-3.ensures
+    (ap (λ (l : List ℕ). l ++ drop 32 c.args.out.now) c.copy_from_slice.ensures.after)
+    c.put_word.ensures c.put_word-then-s-eq32.ensures c.put_word-then-s-eq32-2.ensures c.put_word-then-s-eq32-3.ensures
     ∙ rw (eq-eqb _ _ c.if-out-eq64.true, eq-eqb _ _ c.if-s-eq32.true)
     (ap (λ (l : List ℕ). a.s.now ++ l) (sym
     (trace_words a.lo a.hi a.refused a.kind a.bits _ _ c.ranges.lo.fits c.ending_word.ensures
