@@ -7,8 +7,8 @@ use native.Mathlib.Nat.{add-zero}
 use native.Mathlib.Omega.{arith}
 use borrow.Author.Tests.{ltb-true, ltb-false}
 use lib.Dec.{ltb}
-use lib.ListN.{length, take, drop, get_or, set, length-append, length-take, length-set}
-use lib.Seq.{take-suc, take_at, get_or_at, length-take-le, take-suc-set, take-set-le, drop-set-lt, drop-drop, get_or-drop, get_or-set_same}
+use lib.ListN.{length, take, drop, get_or, set, length-append, length-set}
+use lib.Seq.{take-suc, take_at, get_or_at, length-take-le, take-set-le, drop-set-lt, drop-drop, get_or-drop, get_or-set_same}
 use Rattle.program_digits.specs.Digits.{glyph, digits}
 use Rattle.program_digits.proofs.Laws.{length_digits}
 use Rattle.program_scan.proofs.Numbers.{ten, glyph_is}

@@ -1,19 +1,19 @@
 -- What codes say is what the definition of meetings says. Assumes nothing.
-use Prim.Native.Nat.{ℕ, zero, suc, ◌+◌, ◌*◌, ◌-◌, ◌/◌, ◌%◌, ◌<◌, ◌≤◌}
+use Prim.Native.Nat.{ℕ, zero, suc, ◌+◌, ◌*◌, ◌/◌, ◌%◌, ◌<◌, ◌≤◌}
 use mathlib.Core.Path.{◌≡◌, refl, sym, ap, ap₂, ◌∙◌}
-use mathlib.Core.Bool.{Bool, true, false, cond, ◌&&◌}
-use mathlib.Core.List.{List, [], ◌∷◌, ◌++◌}
+use mathlib.Core.Bool.{Bool, true, false}
+use mathlib.Core.List.{List, ◌++◌}
 use native.Mathlib.Nat.{add-zero}
 use native.Mathlib.Numerals.{add-one}
 use native.Mathlib.Omega.{arith}
-use borrow.Author.Tests.{lt-ltb, le-ltb, leb-true, leb-false}
+use borrow.Author.Tests.{lt-ltb, le-ltb, leb-true}
 use lib.Dec.{leb}
-use lib.ListN.{length, get_or}
+use lib.ListN.{get_or}
 use Rattle.finder_windows.specs.Definition.{bits, marker_bits, window, distance}
 use Rattle.finder_windows.proofs.Distance.{window_le}
 use Rattle.finder_distances.specs.Windows.{after, Laid}
 use Rattle.finder_distances.proofs.Numbers.{at_row}
-use Rattle.capture_meetings.specs.Meetings.{Meeting, met, all_from, shift}
+use Rattle.capture_meetings.specs.Meetings.{Meeting, all_from, shift}
 use Rattle.capture_meetings.proofs.Laws.{parts, shift_append}
 use Rattle.program_scan.specs.Lines.{lines}
 use Rattle.program_scan.specs.Pen.{coded, told, tolds, all_told, Plain}

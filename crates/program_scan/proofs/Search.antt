@@ -1,5 +1,5 @@
 -- What the finder answers, below an end. Assumes nothing.
-use Prim.Native.Nat.{ℕ, zero, suc, ◌+◌, ◌*◌, ◌-◌, ◌<◌, ◌≤◌}
+use Prim.Native.Nat.{ℕ, ◌+◌, ◌-◌, ◌<◌, ◌≤◌}
 use mathlib.Core.Path.{◌≡◌, refl, sym, ap, ◌∙◌}
 use mathlib.Core.Bool.{Bool, true, false, ◌&&◌}
 use mathlib.Core.List.{List, [], ◌∷◌, ◌++◌, Memᴰ}
@@ -8,10 +8,10 @@ use native.Mathlib.Omega.{arith}
 use borrow.Author.Tests.{leb-true, leb-false}
 use lib.Dec.{leb}
 use lib.ListN.{length, drop, length-take}
-use Rattle.finder_windows.specs.Definition.{window, distance, found, refused, stands, first_from}
+use Rattle.finder_windows.specs.Definition.{found, refused, first_from}
 use Rattle.capture_meetings.specs.Meetings.{Meeting, met, all_from, shift, first_of}
 use Rattle.capture_meetings.proofs.Laws.{parts, shift_append}
-use Rattle.capture_meetings.proofs.Members.{Met, only}
+use Rattle.capture_meetings.proofs.Members.{only}
 use Rattle.capture_meetings.proofs.Theorems.{first_is}
 use Rattle.program_digits.specs.Put.{Wrote}
 use Rattle.program_digits.proofs.Puts.{then, said_as, no_more}
