@@ -5,17 +5,12 @@ use mir.Val.{Fits}
 use Rattle.standard.specs.Integer.{signed, modulo}
 use Rattle.lane_integer.proofs.Magnitude.{kept}
 use Rattle.lane_integer.proofs.Signed.{modulo_signed}
-use Rattle.standard.proofs.Calls.{nothing}
 use borrow.Author.Rules.{rules}
-use Rattle.calculator_scalar.proofs.Scalar.of_bits.Statement.{statement}
-use Rattle.calculator_scalar.proofs.Scalar.of_bits.Tie as tie
+use Rattle.calculator_scalar.proofs.Scalar.of_bits.Goals as goal
 
-returns : tie.Need-returns
+pub returns : goal.returns
 returns c =
-    let x = c.before.args.x in
+    let x = c.args.x in
     let f : Fits w32 x = search rules in
     let e : modulo 32 (signed 32 x) ≡ x = modulo_signed w32 x f in
-    rw (kept w32 c.signed32.type-inv c.signed32.ensures, e)
-
-pub of-bits-spec : {M : Type 1} → statement M
-of-bits-spec = tie.close (tie.spec nothing returns)
+    rw (kept w32 c.signed32.type_inv c.signed32.ensures, e)
