@@ -91,7 +91,8 @@ row_tops g (suc n) k h e r hr = by (λ e r hr. row_tops g n (k + 1) h e r hr) r 
     both : bit_and (tops (k + 1) n) (joined 8 (row g (k + 1) n)) * 2 ^ 8 + bit_and 128 (g k) ≡ 128 + 2 ^ 8 * tops (k + 1) n
     both = sym (top_parts g n k h) ∙ e
 
-    by : (bit_and (tops (k + 1) n) (joined 8 (row g (k + 1) n)) ≡ tops (k + 1) n → (r : ℕ) → r < n → 128 ≤ g (k + 1 + r)) → (r : ℕ) → r < suc n → 128 ≤ g (k + r)
+    by : (bit_and (tops (k + 1) n) (joined 8 (row g (k + 1) n)) ≡ tops (k + 1) n → (r : ℕ) → r < n → 128 ≤ g (k + 1 + r))
+        → (r : ℕ) → r < suc n → 128 ≤ g (k + r)
     by later zero hr = rw (add-zero k) (omega (arith, and_le_r 128 (g k), top_small g n k h, both))
     by later (suc r) hr =
         let next : k + suc r ≡ k + 1 + r = omega arith in

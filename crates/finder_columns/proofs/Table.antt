@@ -143,7 +143,8 @@ entry_is m t q h l hh hl es ew ea eu ev =
     ∙ eight_plus (λ r. slack t q) high)
     (ev ∙ rw (es, ew) (counted_is m q l 0x0f (omega arith) (lit< tt)))
     ∙ eight_plus (λ r. slack t q + high r) (λ r. ones (bit_and (differing m q r l) 0x0f))
-    ∙ eight_same _ _ (λ r hr. add_assoc (slack t q) (high r) (ones (bit_and (differing m q r l) 0x0f)) ∙ ap (λ (n : ℕ). slack t q + n) (nibbles m q r h l hh hl))
+    ∙ eight_same _ _ (λ r hr. add_assoc (slack t q) (high r) (ones (bit_and (differing m q r l) 0x0f))
+    ∙ ap (λ (n : ℕ). slack t q + n) (nibbles m q r h l hh hl))
   where
     high : ℕ → ℕ
     high r = ones (bit_and (differing m q r (16 * h)) 0xf0)
@@ -152,7 +153,8 @@ entry_is m t q h l hh hl es ew ea eu ev =
 pub set_more : (f : ℕ → ℕ) (i : ℕ) (table : List ℕ) {v : ℕ} → i < length table → v ≡ f i → ((j : ℕ) → j < i → get_or table j 0 ≡ f j)
     → (j : ℕ) → j < i + 1 → get_or (set table i v) j 0 ≡ f j
 set_more f i table {v} h e old =
-    below_more (λ j. get_or (set table i v) j 0 ≡ f j) i (λ k hk. get_or-set_other table i k v 0 (λ same. omega arith) ∙ old k hk) (get_or-set_same table i v 0 h ∙ e)
+    below_more (λ j. get_or (set table i v) j 0 ≡ f j) i (λ k hk. get_or-set_other table i k v 0 (λ same. omega arith) ∙ old k hk)
+    (get_or-set_same table i v 0 h ∙ e)
 
 pub entry_at : (m t q x j : ℕ) → j ≡ 256 * q + x → x < 256 → entry m t (j / 256) (j % 256) ≡ entry m t q x
 entry_at m t q x j place h =

@@ -1,5 +1,7 @@
 -- The distance of a window is the sum of the ones of what differs in each of the five bytes over which it stands. Assumes nothing.
-use Rattle.std.proofs.Common.{◌≡◌, ℕ, ◌+◌, ◌-◌, ◌*◌, ◌/◌, ◌%◌, ◌^◌, ◌<◌, ◌≤◌, List, [], ◌∷◌, ◌++◌, length, get_or, sym, refl, ap, ◌∙◌, ap₂, append_assoc, append-nil, lt_of_lt_of_le, add-zero, mod-lt, mod-eq_of_lt, mul_assoc, div-add-mod', div-one, arith, lit<, pow_pos, pow_mono, pow-add, shr-shr, shr_lt}
+use Rattle.std.proofs.Common.{◌≡◌, ℕ, ◌+◌, ◌-◌, ◌*◌, ◌/◌, ◌%◌, ◌^◌, ◌<◌, ◌≤◌, List, [], ◌∷◌, ◌++◌, length, get_or, sym, refl, ap, ◌∙◌, ap₂}
+use Rattle.std.proofs.Common.{append_assoc, append-nil, lt_of_lt_of_le, add-zero, mod-lt, mod-eq_of_lt, mul_assoc, div-add-mod', div-one, arith}
+use Rattle.std.proofs.Common.{lit<, pow_pos, pow_mono, pow-add, shr-shr, shr_lt}
 use lib.Arith.{digits_lt}
 use lib.Pow.{shl-shr, high_ones}
 use lib.Bits.{bit_and, bit_xor, and_high, xor_block, xor_lt, xor_shr, xor_mod, and_shr, and_mod}

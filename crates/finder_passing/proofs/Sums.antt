@@ -1,5 +1,6 @@
 -- The sum of five entries, modulo 2^64, has the distances of eight windows, and what its top bits tell. Assumes nothing.
-use Rattle.std.proofs.Common.{◌≡◌, ℕ, ◌+◌, ◌-◌, ◌*◌, ◌%◌, ◌^◌, ◌<◌, ◌≤◌, Bool, true, false, ltb, List, length, get_or, sym, refl, ap, ◌∙◌, arith, ltb-false, ltb-true}
+use Rattle.std.proofs.Common.{◌≡◌, ℕ, ◌+◌, ◌-◌, ◌*◌, ◌%◌, ◌^◌, ◌<◌, ◌≤◌, Bool, true, false, ltb, List, length, get_or, sym, refl, ap, ◌∙◌, arith}
+use Rattle.std.proofs.Common.{ltb-false, ltb-true}
 use lib.Bits.{bit_and, and_le_l}
 use lib.Count.{ones, ones-le}
 use Rattle.finder_windows.specs.Definition.{bits, marker_bits}

@@ -13,7 +13,10 @@ returns-then-filled-by c = record {
 }
 
 pub returns-then-before-gt-CAPTURE : goal.returns-then-before-gt-CAPTURE
-returns-then-before-gt-CAPTURE c = record { by_index = λ L X s. absurd (omega (arith, s.all, s.few)); by_index_2 = λ L X s. absurd (omega (arith, s.all, s.few)) }
+returns-then-before-gt-CAPTURE c = record {
+  by_index = λ L X s. absurd (omega (arith, s.all, s.few));
+  by_index_2 = λ L X s. absurd (omega (arith, s.all, s.few));
+}
 
 pub returns : goal.returns
 returns c = record { by_index = λ L X s. slid L X _ _ _ s (omega arith) c.slide.ensures; by_index_2 = λ L X s. omega arith }

@@ -15,7 +15,7 @@ pub overflow_add-high : goal.overflow_add-high
 overflow_add-high c =
     -- the sum of both nibbles' counts
     let value : (l : ℕ) → l < 16 → c.args.above + c.counted.result + get_or c.low_nibbles-low.result l 0
-        ≡ entry c.args.marker c.args.tolerance c.args.q (16 * c.loop-h.h + l) =
+    ≡ entry c.args.marker c.args.tolerance c.args.q (16 * c.loop-h.h + l) =
     λ l hl. entry_is c.args.marker c.args.tolerance c.args.q c.loop-h.h l (omega arith) hl
     c.pattern-seen.ensures c.pattern-wanted.ensures c.requires.above_value c.counted.ensures (c.low_nibbles-low.ensures l hl)
     in
@@ -28,7 +28,7 @@ pub overflow_add-table : goal.overflow_add-table
 overflow_add-table c =
     -- the sum of both nibbles' counts
     let value : (l : ℕ) → l < 16 → c.args.above + c.counted.result + get_or c.low_nibbles-low.result l 0
-        ≡ entry c.args.marker c.args.tolerance c.args.q (16 * c.loop-h.h + l) =
+    ≡ entry c.args.marker c.args.tolerance c.args.q (16 * c.loop-h.h + l) =
     λ l hl. entry_is c.args.marker c.args.tolerance c.args.q c.loop-h.h l (omega arith) hl
     c.pattern-seen.ensures c.pattern-wanted.ensures c.requires.above_value c.counted.ensures (c.low_nibbles-low.ensures l hl)
     in
@@ -38,7 +38,7 @@ pub loop-l-preserved : goal.loop-l-preserved
 loop-l-preserved c =
     -- the sum of both nibbles' counts
     let value : (l : ℕ) → l < 16 → c.args.above + c.counted.result + get_or c.low_nibbles-low.result l 0
-        ≡ entry c.args.marker c.args.tolerance c.args.q (16 * c.loop-h.h + l) =
+    ≡ entry c.args.marker c.args.tolerance c.args.q (16 * c.loop-h.h + l) =
     λ l hl. entry_is c.args.marker c.args.tolerance c.args.q c.loop-h.h l (omega arith) hl
     c.pattern-seen.ensures c.pattern-wanted.ensures c.requires.above_value c.counted.ensures (c.low_nibbles-low.ensures l hl)
     in

@@ -27,10 +27,8 @@ pub put_many-requires : goal.put_many-requires
 put_many-requires c =
     let given = c.args in
     let pre = c.requires in
-    let here = c.distances.ensures.laid (omega (arith, pre.frame_bound, pre.buffer_bound))
-    (pre.first_len.0, below_none _) in
-    let later = c.distances-2.ensures.laid (omega (arith, pre.frame_bound, pre.buffer_bound))
-    (pre.first_len.1, below_none _) in
+    let here = c.distances.ensures.laid (omega (arith, pre.frame_bound, pre.buffer_bound)) (pre.first_len.0, below_none _) in
+    let later = c.distances-2.ensures.laid (omega (arith, pre.frame_bound, pre.buffer_bound)) (pre.first_len.1, below_none _) in
     let top = c.requires in
     let judge = c.judge in record {
       ready = top.ready;
@@ -44,19 +42,15 @@ put_many-requires c =
 
 pub returns : goal.returns
 returns c =
-    let given =
-    c.args in
-    let pre =
-    c.requires in
-    let here =
-    c.distances.ensures.laid
-    (omega (arith, pre.frame_bound, pre.buffer_bound)) (pre.first_len.0, below_none _) in
-    let later = c.distances-2.ensures.laid
-    (omega (arith, pre.frame_bound, pre.buffer_bound)) (pre.first_len.1, below_none _) in
+    let given = c.args in
+    let pre = c.requires in
+    let here = c.distances.ensures.laid (omega (arith, pre.frame_bound, pre.buffer_bound)) (pre.first_len.0, below_none _) in
+    let later = c.distances-2.ensures.laid (omega (arith, pre.frame_bound, pre.buffer_bound)) (pre.first_len.1, below_none _) in
     let judge = c.judge in
     let put = c.put_many in record {
       ready_2 = put.ensures.ready_2;
-      by_index = λ k e. said_as (meetings_are given.buffer.now c.distances.new.away c.distances-2.new.away judge.new.second given.at given.marker given.tolerance given.frame
+      by_index = λ k e. said_as (meetings_are given.buffer.now c.distances.new.away c.distances-2.new.away judge.new.second
+          given.at given.marker given.tolerance given.frame
           pre.tolerance_bound here later judge.ensures k given.number e) put.ensures.wrote;
       used_bound = put.ensures.used_bound;
       first_len_2 = (here.0, judge.auto.second ∙ later.0);

@@ -11,7 +11,8 @@ abbrev pub invariant-loop-i : goal.invariant-loop-i
 invariant-loop-i l =
     (l.i % 32 ≡ l.from) × (l.i ≤ l.from + 256) × (length l.block ≡ length l.initial.block) × (length l.text ≡ length l.initial.text)
     × Ready l.text l.pen.digits l.pen.tail (l.number + l.i / 32)
-    × Wrote l.initial.block l.initial.pen.used (lines (tolds l.codes l.from l.number (l.i / 32))) l.block l.pen.used × (l.pen.used ≤ l.initial.pen.used + 44 * (l.i / 32))
+    × Wrote l.initial.block l.initial.pen.used (lines (tolds l.codes l.from l.number (l.i / 32))) l.block l.pen.used
+    × (l.pen.used ≤ l.initial.pen.used + 44 * (l.i / 32))
 
 abbrev pub decreases-loop-i : goal.decreases-loop-i
 decreases-loop-i l = 288 - l.i

@@ -10,10 +10,8 @@ use Rattle.program_scan.proofs.put_line.Goals as goal
 
 pub returns : goal.returns
 returns c =
-    let given =
-    c.args in
-    let pre =
-    c.requires in
+    let given = c.args in
+    let pre = c.requires in
     let few = pre.digits_bound in
     let two = c.copy-2 in
     let three = c.put_word in

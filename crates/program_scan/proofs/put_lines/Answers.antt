@@ -50,12 +50,10 @@ slice_bounds-fill-end c =
     sym (length-take-le given.scan.filled given.window.now (omega (arith, known.2)))
 
 pub overflow_add-from : goal.overflow_add-from
-overflow_add-from c = let known =
-    c.is_shut.ensures.le_frame c.if-is_shut.false in record { fits = omega (arith, known.3) }
+overflow_add-from c = let known = c.is_shut.ensures.le_frame c.if-is_shut.false in record { fits = omega (arith, known.3) }
 
 pub overflow_mul-from : goal.overflow_mul-from
-overflow_mul-from c = let known =
-    c.is_shut.ensures.le_frame c.if-is_shut.false in record { fits = omega (arith, known.3) }
+overflow_mul-from c = let known = c.is_shut.ensures.le_frame c.if-is_shut.false in record { fits = omega (arith, known.3) }
 
 pub fill-put-requires : goal.fill-put-requires
 fill-put-requires c =
@@ -74,9 +72,7 @@ fill-put-requires c =
 pub returns-then-at-end : goal.returns-then-at-end
 returns-then-at-end c =
     let given = c.args in
-    let known =
-    c.is_shut.ensures.le_frame
-    c.if-is_shut.false in
+    let known = c.is_shut.ensures.le_frame c.if-is_shut.false in
     let fill = c.fill-put in
     let end = c.limit-end.ensures in
     let is = c.put_to-then-at-end.ensures in record {
@@ -92,13 +88,10 @@ returns-then-at-end c =
 pub returns : goal.returns
 returns c =
     let given = c.args in
-    let known =
-    c.is_shut.ensures.le_frame
-    c.if-is_shut.false in
+    let known = c.is_shut.ensures.le_frame c.if-is_shut.false in
     let fill = c.fill-put in
     let end = c.limit-end.ensures in
-    let short_of =
-    less fill.result.at c.limit-end.result fill.ensures.from_le_at.1 c.if-at-end.false in
+    let short_of = less fill.result.at c.limit-end.result fill.ensures.from_le_at.1 c.if-at-end.false in
     let is = c.put_to-2.ensures in record {
       used_in_bounds = rw (ap (λ (z : Put). z.used) is) fill.ensures.from_le_at.2;
       by_index = λ X s small made few. subst

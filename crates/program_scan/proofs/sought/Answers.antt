@@ -33,7 +33,8 @@ returns-then-p-end c =
     let given = c.args in record {
       within = omega arith;
       sought = λ made. beyond (bits given.buffer.now) (marker_bits given.marker) given.tolerance given.frame
-          (8 * length given.buffer.now - (given.frame + 31) - given.at) given.at given.end (omega arith) (omega arith) _ _ _ (sym (rw c.in-Found.is at (c.next.ensures (omega arith) (omega arith) (omega arith) made)))
+          (8 * length given.buffer.now - (given.frame + 31) - given.at) given.at given.end (omega arith) (omega arith) _ _ _
+          (sym (rw c.in-Found.is at (c.next.ensures (omega arith) (omega arith) (omega arith) made)))
           (omega arith);
     }
 
@@ -44,7 +45,8 @@ returns-then-first-gt8 c =
       sought = λ made. absurd (omega (
         arith,
         (near (bits given.buffer.now) (marker_bits given.marker) given.tolerance given.frame
-            (8 * length given.buffer.now - (given.frame + 31) - given.at) given.at given.end (omega arith) (omega arith) _ _ _ (sym (rw c.in-Found.is at (c.next.ensures (omega arith) (omega arith) (omega arith) made)))).0,
+            (8 * length given.buffer.now - (given.frame + 31) - given.at) given.at given.end (omega arith) (omega arith) _ _ _
+            (sym (rw c.in-Found.is at (c.next.ensures (omega arith) (omega arith) (omega arith) made)))).0,
       ));
     }
 
@@ -55,7 +57,8 @@ returns-then-second-gt8 c =
       sought = λ made. absurd (omega (
         arith,
         (near (bits given.buffer.now) (marker_bits given.marker) given.tolerance given.frame
-            (8 * length given.buffer.now - (given.frame + 31) - given.at) given.at given.end (omega arith) (omega arith) _ _ _ (sym (rw c.in-Found.is at (c.next.ensures (omega arith) (omega arith) (omega arith) made)))).1,
+            (8 * length given.buffer.now - (given.frame + 31) - given.at) given.at given.end (omega arith) (omega arith) _ _ _
+            (sym (rw c.in-Found.is at (c.next.ensures (omega arith) (omega arith) (omega arith) made)))).1,
       ));
     }
 

@@ -79,14 +79,10 @@ many-pen-requires c =
 
 pub overflow_add-at : goal.overflow_add-at
 overflow_add-at c =
-    let given =
-    c.args in
-    let pre =
-    c.requires in
+    let given = c.args in
+    let pre = c.requires in
     let loop = c.loop-at in
-    let taken =
-    both (loop.dense && leb 11265 (length loop.block - loop.pen.used)) (leb 288 (given.end - loop.at))
-    c.if-dense-room.true in
+    let taken = both (loop.dense && leb 11265 (length loop.block - loop.pen.used)) (leb 288 (given.end - loop.at)) c.if-dense-room.true in
     let left : 288 ≤ given.end - loop.at = leb-true _ _ taken.1 in
     let high : given.end + given.frame + 31 ≤ 8 * length given.buffer.now = pre.frame_bound in
     let below : given.base + 8 * length given.buffer.now ≤ 9223372036854775808 = pre.buffer_bound in
@@ -94,8 +90,7 @@ overflow_add-at c =
 
 pub loop-at-preserved-then-dense-room : goal.loop-at-preserved-then-dense-room
 loop-at-preserved-then-dense-room c =
-    let given =
-    c.args in
+    let given = c.args in
     let loop = c.loop-at in
     let inv = loop.invariant in
     let many = c.many-pen in
@@ -122,8 +117,7 @@ returns-in_default c =
     let given = c.args in
     let loop = c.loop-at in
     let inv = loop.invariant in
-    let room : 45 ≤ length loop.block - loop.pen.used = c.is_full.ensures.le_room
-    c.if-is_full.false in
+    let room : 45 ≤ length loop.block - loop.pen.used = c.is_full.ensures.le_room c.if-is_full.false in
     let size : length loop.block ≡ length given.block.now = inv.2 in record {
       from_le_at = (omega (arith, inv.0, inv.1), omega arith, inv.6);
       put_to = λ made. let put = none_more (bits given.buffer.now) (marker_bits given.marker) given.tolerance given.frame given.base given.from
@@ -146,8 +140,7 @@ overflow_add-base-else-dense-room c =
     c.sought.ensures.within in
     let high : given.end + given.frame + 31 ≤ 8 * length
     given.buffer.now = c.requires.frame_bound in
-    let below : given.base + 8 * length given.buffer.now ≤ 9223372036854775808 =
-    c.requires.buffer_bound in
+    let below : given.base + 8 * length given.buffer.now ≤ 9223372036854775808 = c.requires.buffer_bound in
     record { fits = omega (arith, within.1, high, below) }
 
 pub one-pen-requires : goal.one-pen-requires
@@ -161,11 +154,9 @@ one-pen-requires c =
     c.sought.ensures.within in
     let high : given.end + given.frame + 31 ≤ 8 * length
     given.buffer.now = c.requires.frame_bound in
-    let below : given.base + 8 * length given.buffer.now ≤ 9223372036854775808 =
-    c.requires.buffer_bound in
+    let below : given.base + 8 * length given.buffer.now ≤ 9223372036854775808 = c.requires.buffer_bound in
     let number : given.base + c.in-Found.p < 9223372036854775808 = omega (arith, within.1, high, below) in
-    let room : 45 ≤ length loop.block - loop.pen.used = c.is_full.ensures.le_room
-    c.if-is_full.false in
+    let room : 45 ≤ length loop.block - loop.pen.used = c.is_full.ensures.le_room c.if-is_full.false in
     let space : loop.pen.used + 44 ≤ length loop.block = omega (arith, room) in record {
       in_bounds = omega (arith, inv.3);
       number_bound = number;
@@ -175,8 +166,7 @@ one-pen-requires c =
 
 pub overflow_sub-dense : goal.overflow_sub-dense
 overflow_sub-dense c =
-    let given =
-    c.args in
+    let given = c.args in
     let loop = c.loop-at in
     let within : Within loop.at given.end
     (Answer.Found c.in-Found.p
@@ -188,8 +178,7 @@ overflow_sub-dense c =
 
 pub overflow_add-at-else-dense-room : goal.overflow_add-at-else-dense-room
 overflow_add-at-else-dense-room c =
-    let given =
-    c.args in
+    let given = c.args in
     let loop = c.loop-at in
     let within : Within loop.at given.end
     (Answer.Found c.in-Found.p
@@ -197,16 +186,13 @@ overflow_add-at-else-dense-room c =
     c.in-Found.b) = rw
     c.in-Found.is at
     c.sought.ensures.within in
-    let high : given.end + given.frame + 31 ≤ 8 * length given.buffer.now =
-    c.requires.frame_bound in
-    let below : given.base + 8 * length given.buffer.now ≤ 9223372036854775808 =
-    c.requires.buffer_bound in
+    let high : given.end + given.frame + 31 ≤ 8 * length given.buffer.now = c.requires.frame_bound in
+    let below : given.base + 8 * length given.buffer.now ≤ 9223372036854775808 = c.requires.buffer_bound in
     record { fits = omega (arith, within.1, high, below) }
 
 pub loop-at-smaller : goal.loop-at-smaller
 loop-at-smaller c =
-    let given =
-    c.args in
+    let given = c.args in
     let loop = c.loop-at in
     let within : Within loop.at given.end
     (Answer.Found c.in-Found.p
@@ -218,8 +204,7 @@ loop-at-smaller c =
 
 pub loop-at-preserved : goal.loop-at-preserved
 loop-at-preserved c =
-    let given =
-    c.args in
+    let given = c.args in
     let loop = c.loop-at in
     let within : Within loop.at given.end
     (Answer.Found c.in-Found.p
@@ -231,9 +216,7 @@ loop-at-preserved c =
     let one = c.one-pen in
     let p = c.in-Found.p in
     let next : given.base + p + 1 ≡ given.base + (p + 1) = omega arith in
-    let room : 45 ≤ length loop.block - loop.pen.used =
-    c.is_full.ensures.le_room
-    c.if-is_full.false in
+    let room : 45 ≤ length loop.block - loop.pen.used = c.is_full.ensures.le_room c.if-is_full.false in
     let size : length loop.block ≡ length given.block.now = inv.2 in
     let used : one.result.used ≤ loop.pen.used + 44 = one.ensures.used_bound in (
       omega (arith, inv.0, within.0),
