@@ -19,7 +19,7 @@ use Rattle.recording_crc16.proofs.Shift.{times-⊕, times_add, times_0, times_sm
 use Rattle.recording_crc16.proofs.Chunk.{run_lt}
 use Rattle.recording_crc16.proofs.Bytes.{run_byte, run_next}
 use Rattle.recording_layout.proofs.Below.{both}
-use Rattle.recording_mending_rules.specs.Definition.{flipped, bit_from, put_back, beyond, found, mended, block_of}
+use Rattle.recording_mending_rules.specs.Definition.{flipped, bit_from, put_back, beyond, mended, block_of}
 use Rattle.recording_mending_rules.specs.Place.{Place, number_of}
 use Rattle.recording_mending_rules.proofs.Bits.{Right, flip}
 use Rattle.recording_mending_rules.proofs.Apart.{apart}

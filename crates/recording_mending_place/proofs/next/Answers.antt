@@ -5,18 +5,11 @@ use lib.Bits.{bit_xor}
 use lib.Pow.{shr_mod}
 use borrow.Author.Rules.{rules}
 use Rattle.recording_crc16.specs.Remainder.{◌⊕◌, shift}
-use Rattle.recording_mending_place.proofs.next.Statement.{statement}
-use Rattle.recording_mending_place.proofs.next.Tie as tie
-
-mul-result : tie.Need-overflow-mul-result
-mul-result c = search rules
+use Rattle.recording_mending_place.proofs.next.Goals as goal
 
 moved : (r : ℕ) → r < 65536 → bit_xor (r / 32768 * 4129) (r * 2 % 65536) ≡ shift r
 unfolding shift ◌⊕◌
 moved r h = ap (λ (t : ℕ). bit_xor (t * 4129) (r * 2 % 65536)) (sym (shr_mod 1 15 h))
 
-returns : tie.Need-returns
+pub returns : goal.returns
 returns c = moved c.args.r (search rules)
-
-pub next-spec : {M : Type 1} → statement M
-next-spec = tie.close (tie.spec mul-result returns)
