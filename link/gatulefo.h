@@ -2,7 +2,7 @@
  *
  * SPDX-License-Identifier: Apache-2.0
  *
- * Made by link/header out of crates/gatulefo/src. `rt staticlib gatulefo` makes the archive, target/staticlib/libgatulefo.a, for Linux on x86-64, and
+ * Made by link/header out of crates/gatulefo/src. `link/archive` makes the archive, target/staticlib/libgatulefo.a, for Linux on x86-64, and
  * link/install puts it with this header where a compiler looks; link/check calls every function here from C and compares what it answers.
  *
  * Values. A vector goes in and comes out by value. A scalar goes in and comes out as its bits: an i8 as a uint8_t, a float as the number of its pattern. No

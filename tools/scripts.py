@@ -2,6 +2,7 @@
 a library out of a copy of the crates. A script finds it by `sys.path`: see any of bench/."""
 import os
 import platform
+import re
 import shutil
 import subprocess
 import sys
@@ -45,11 +46,13 @@ def program(name, *arguments):
 
 
 def emulated(program):
-    """The command that runs a program which is compiled for x86-64: with the kit's emulator, its loader and its C library where the processor is another."""
+    """The command that runs a program which is compiled for x86-64: with an emulator, the kit's loader and its C library where the processor is another."""
     if platform.machine() == "x86_64":
         return [str(program)]
     tools = toolchain().parent
-    emulator = str(tools / "bin" / "qemu-x86_64")
+    emulator = shutil.which("qemu-x86_64", path="%s:%s" % (tools / "bin", os.environ.get("PATH", "")))
+    if not emulator:
+        fail("running on %s needs an emulator, and there is no qemu-x86_64 on the path" % platform.machine())
     with open(program, "rb") as file:
         needs_loader = b"ld-linux-x86-64" in file.read()
     loader = [str(tools / "lib" / "ld-linux-x86-64.so.2"), "--library-path", str(tools / "lib")]
@@ -73,16 +76,13 @@ def toolchain():
     """The folder of the compiler and linker with which rt makes programs."""
     if not shutil.which("rt"):
         fail("there is no rt (Rattle's command) on the path")
-    return Path(run(["rt", "doc"]).strip()).parent.parent / "on" / platform.machine() / "toolchain" / "bin"
+    return Path(run(["rt", "doc"]).strip()).parent / "toolchain" / "bin"
 
 
 def copy_crates(room):
-    """A copy of the crates in a folder, with what has been proved, so that nothing of it is proved again."""
+    """A copy of the crates in a folder. What rt proved of them anywhere on this machine it takes up there, so that nothing of it is proved again."""
     shutil.rmtree(room / "crates", ignore_errors=True)
-    shutil.copytree(ROOT / "crates", room / "crates", ignore=shutil.ignore_patterns("must-fail"))
-    for proved in ("rlib", "stamp"):
-        if (ROOT / "target" / proved).is_dir() and not (room / "target" / proved).is_dir():
-            shutil.copytree(ROOT / "target" / proved, room / "target" / proved, ignore=shutil.ignore_patterns("*.tmp-*"))
+    shutil.copytree(ROOT / "crates", room / "crates", ignore=shutil.ignore_patterns("must-fail", "out"))
     shutil.copy(ROOT / "crates.txt", room)
 
 
@@ -95,10 +95,17 @@ def add_crate(room, name, uses, text):
     source.write_text(text)
 
 
+def make_static(room, name):
+    """Has rt make a static library of a crate of the copy: crates.txt says so behind its name."""
+    listed = room / "crates.txt"
+    listed.write_text(re.sub(r"(?m)^%s:" % name, "%s staticlib:" % name, listed.read_text()))
+
+
 def archive(room, name):
     """The static library of a crate of the copy."""
-    run(["rt", "staticlib", name], room, "the static library was not made")
-    return room / "target" / "staticlib" / ("lib%s.a" % name)
+    make_static(room, name)
+    run(["rt", "lib"], room / "crates" / name, "the static library was not made")
+    return room / "crates" / name / "out" / ("lib%s.a" % name)
 
 
 def native_archive(room, name):
@@ -107,11 +114,14 @@ def native_archive(room, name):
     a function cannot be called from C or Rust there."""
     if platform.machine() == "x86_64":
         return archive(room, name)
+    make_static(room, name)
     made = room / "target" / "native"
     made.mkdir(parents=True, exist_ok=True)
     run([ROOT / "tools" / "module", name, made], room, "there is no module")
     words = (made / "words").read_text().splitlines()
     foreign = [word for word in words if not word.startswith(("--target=", "-march=", "--sysroot=", "-Werror"))]
+    of_x86 = [k for k, word in enumerate(foreign) if "x86" in word]
+    foreign = [word for k, word in enumerate(foreign) if k not in of_x86 and k + 1 not in of_x86]
     run([toolchain() / "clang", "--target=%s-unknown-linux-gnu" % platform.machine(), *foreign], made, "the module was not compiled for this processor")
     library = made / ("lib%s.a" % name)
     library.unlink(missing_ok=True)

@@ -1,4 +1,4 @@
-//! Links the archive that `rt staticlib gatulefo` makes in the repository's folder target/staticlib, or the one in the folder that the variable GATULEFO names,
+//! Links the archive that `link/archive` makes in the repository's folder target/staticlib, or the one in the folder that the variable GATULEFO names,
 //! which then is for the target's processor.
 
 use std::env;
@@ -26,7 +26,7 @@ fn main() {
     }
     let archive = folder().join("libgatulefo.a");
     let Ok(archive) = archive.canonicalize() else {
-        fail(&format!("no {}: `rt staticlib gatulefo` in the repository makes it", archive.display()));
+        fail(&format!("no {}: `link/archive` in the repository makes it", archive.display()));
     };
     println!("cargo:rerun-if-changed={}", archive.display());
     println!("cargo:rustc-link-search=native={}", archive.parent().unwrap().display());

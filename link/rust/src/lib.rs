@@ -1,4 +1,4 @@
-//! WebAssembly's 128-bit vector instructions, proved, and what is built on them: the functions of the archive that `rt staticlib gatulefo` makes, safe to call.
+//! WebAssembly's 128-bit vector instructions, proved, and what is built on them: the functions of the archive that `link/archive` makes, safe to call.
 //!
 //! SPDX-License-Identifier: Apache-2.0. The interface of [`simd`] is that of wasmi_core 2.0.0; the repository's NOTICE says more.
 //!
