@@ -1,5 +1,4 @@
 -- `program_assemble::put_complaint` meets its contract, part by part. Assumes nothing.
-use borrow.Author.Rules.{rules}
 use Rattle.program_digits.specs.Codes.{codes}
 use Rattle.program_digits.proofs.Puts.{then}
 use Rattle.program_assemble.specs.Text.{complaint}

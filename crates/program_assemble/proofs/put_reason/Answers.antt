@@ -1,5 +1,4 @@
 -- `program_assemble::put_reason` meets its contract. Assumes nothing.
-use borrow.Author.Rules.{rules}
 use Rattle.program_digits.specs.Codes.{codes}
 use Rattle.program_words.specs.Cut.{pieces}
 use Rattle.program_assemble.specs.Text.{reasons, why}

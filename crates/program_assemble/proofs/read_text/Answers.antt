@@ -1,13 +1,10 @@
 -- `program_assemble::read_text` meets its contract: each turn reads one line. Assumes nothing.
 use borrow.Author.Rules.{rules}
-use Prim.Native.Nat.{◌-◌}
 use native.Mathlib.Omega.{arith}
-use mathlib.Core.Path.{◌≡◌}
-use lib.ListN.{length}
 use Rattle.program_words.specs.Cut.{newline}
 use Rattle.program_words.specs.Stops.{Scanned}
 use Rattle.program_words.proofs.Scans.{scanned}
-use Rattle.program_assemble.proofs.Texts.{SoFar, nothing_yet, wrong_here, all_read, read_on}
+use Rattle.program_assemble.proofs.Texts.{nothing_yet, wrong_here, all_read, read_on}
 use Rattle.program_assemble.proofs.read_text.Goals as goal
 
 pub loop-taken-init : goal.loop-taken-init
