@@ -1,9 +1,9 @@
 -- Texts in which nothing stops, and what may be added to a line without changing its statement or its words. Assumes nothing.
-use mathlib.Core.Path.{◌≡◌, refl, sym, ap, ◌∙◌}
+use mathlib.Core.Path.{◌≡◌, refl, ap}
 use mathlib.Core.Bool.{Bool, true, false, cond, false≢true}
 use mathlib.Core.List.{List, [], ◌∷◌, ◌++◌}
 use Prim.Native.Nat.{ℕ}
-use Rattle.program_words.specs.Cut.{before, onward, pieces, onto}
+use Rattle.program_words.specs.Cut.{before, pieces, onto}
 
 abbrev pub free : (ℕ → Bool) → List ℕ → Bool
 free stop [] = true

@@ -1,6 +1,5 @@
 -- `program_arguments::decimal` meets its contract. Assumes nothing.
 use native.Mathlib.Omega.{arith}
-use borrow.Author.Rules.{rules}
 use borrow.Author.Tests.{eq-eqb, ne_eqb}
 use lib.ListN.{length}
 use Rattle.program_arguments.proofs.decimal.Goals as goal

@@ -1,10 +1,10 @@
 -- `program_arguments::spelt` meets its contract: what the characters still to come make of the value read is the answer. Assumes nothing.
-use Prim.Native.Nat.{◌+◌, ◌-◌, ◌*◌, ◌^◌, ◌<◌, ◌≤◌}
-use mathlib.Core.Path.{◌≡◌, refl, sym, ◌∙◌, ap}
+use Prim.Native.Nat.{◌+◌, ◌*◌}
+use mathlib.Core.Path.{refl, sym, ◌∙◌, ap}
 use native.Mathlib.Omega.{arith}
 use borrow.Author.Rules.{rules}
-use lib.ListN.{length, drop}
-use Rattle.program_arguments.specs.Arguments.{numeral, fitting}
+use lib.ListN.{drop}
+use Rattle.program_arguments.specs.Arguments.{fitting}
 use Rattle.program_arguments.proofs.Numerals.{product_lt, beyond, no_digit, read_on, all_read}
 use Rattle.program_arguments.proofs.spelt.Goals as goal
 

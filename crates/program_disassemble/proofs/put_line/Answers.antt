@@ -1,5 +1,4 @@
 -- `program_disassemble::put_line` meets its contract: the line is made, and then put. Assumes nothing.
-use borrow.Author.Rules.{rules}
 use Prim.Native.Nat.{ℕ, ◌≤◌}
 use native.Mathlib.Omega.{arith}
 use mathlib.Core.Path.{◌≡◌, refl, sym}

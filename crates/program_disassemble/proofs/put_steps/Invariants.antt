@@ -1,13 +1,9 @@
 -- `program_disassemble::put_steps` meets its contract: what is written so far, and one line more. Assumes nothing.
-use borrow.Author.Rules.{rules}
-use Prim.Native.Nat.{suc, ◌+◌, ◌*◌, ◌-◌, ◌/◌, ◌≤◌}
-use native.Mathlib.Omega.{arith}
+use Prim.Native.Nat.{◌-◌, ◌/◌, ◌≤◌}
 use mathlib.Core.Path.{◌≡◌}
 use lib.ListN.{length}
 use Rattle.program_digits.specs.Put.{Wrote}
-use Rattle.program_digits.proofs.Puts.{then, no_more}
 use Rattle.program_disassemble.specs.Written.{lines}
-use Rattle.program_disassemble.proofs.Lines.{lines_more}
 use Rattle.program_disassemble.proofs.put_steps.Given as goal
 
 abbrev pub invariant-loop-i : goal.invariant-loop-i

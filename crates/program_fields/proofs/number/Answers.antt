@@ -1,9 +1,7 @@
 -- `program_fields::number` meets its contract. Assumes nothing.
-use borrow.Author.Rules.{rules}
 use mathlib.Core.Path.{◌∙◌}
 use native.Mathlib.Omega.{arith}
 use Rattle.program_words.specs.Cut.{blank}
-use Rattle.program_words.specs.Stops.{Scanned}
 use Rattle.program_words.proofs.Scans.{scanned}
 use Rattle.program_fields.proofs.Found.{is_number}
 use Rattle.program_fields.proofs.number.Goals as goal

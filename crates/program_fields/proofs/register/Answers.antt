@@ -3,7 +3,6 @@ use borrow.Author.Rules.{rules}
 use mathlib.Core.Path.{◌∙◌}
 use native.Mathlib.Omega.{arith}
 use Rattle.program_words.specs.Cut.{blank}
-use Rattle.program_words.specs.Stops.{Scanned}
 use Rattle.program_words.proofs.Scans.{scanned}
 use Rattle.program_fields.proofs.Found.{no_word, no_r, is_register}
 use Rattle.program_fields.proofs.register.Goals as goal

@@ -1,5 +1,4 @@
 -- `program_fields::within` meets its contract. Assumes nothing.
-use borrow.Author.Rules.{rules}
 use native.Mathlib.Omega.{arith}
 use Rattle.program_arguments.proofs.Numerals.{within}
 use Rattle.program_fields.proofs.within.Goals as goal

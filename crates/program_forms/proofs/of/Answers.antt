@@ -1,5 +1,4 @@
 -- `program_forms::of` meets its contract. Assumes nothing.
-use borrow.Author.Rules.{rules}
 use mathlib.Core.Path.{ap, ◌∙◌}
 use Rattle.program_forms.specs.Forms.{form_of, form}
 use Rattle.program_forms.proofs.of.Goals as goal

@@ -1,5 +1,4 @@
 -- `program_forms::of_shape` meets its contract. Assumes nothing.
-use borrow.Author.Rules.{rules}
 use Rattle.program_forms.proofs.of_shape.Goals as goal
 
 pub returns-in-None : goal.returns-in-None

@@ -2,7 +2,6 @@
 use borrow.Author.Rules.{rules}
 use mathlib.Core.Path.{refl}
 use Rattle.program_words.specs.Cut.{solid}
-use Rattle.program_words.specs.Stops.{Scanned}
 use Rattle.program_words.proofs.Scans.{scanned}
 use Rattle.program_line.proofs.Lines.{read_as, ends_wrong, ends_more, ends_step}
 use Rattle.program_line.proofs.end_line.Goals as goal

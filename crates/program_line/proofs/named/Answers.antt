@@ -1,9 +1,9 @@
 -- `program_line::named` meets its contract. Assumes nothing.
 use borrow.Author.Rules.{rules}
-use mathlib.Core.Path.{◌≡◌, sym, ap, ◌∙◌}
+use mathlib.Core.Path.{ap, ◌∙◌}
 use borrow.Author.Tests.{lt-ltb, le-ltb}
 use Rattle.program_forms.proofs.Fits.{form_fits}
-use Rattle.program_line.specs.Line.{end_line, take_packed, take_form, named}
+use Rattle.program_line.specs.Line.{end_line, take_packed, named}
 use Rattle.program_line.proofs.Lines.{read_as}
 use Rattle.program_line.proofs.named.Goals as goal
 

@@ -1,12 +1,9 @@
 -- `program_line::take_fields` meets its contract: the fields still to be taken answer for all. Assumes nothing.
 use borrow.Author.Rules.{rules}
-use Prim.Native.Nat.{suc, ◌+◌, ◌-◌, ◌≤◌}
+use Prim.Native.Nat.{suc, ◌+◌, ◌-◌}
 use native.Mathlib.Omega.{arith}
 use mathlib.Core.Path.{◌≡◌}
-use lib.ListN.{length}
-use Rattle.program_fields.specs.Values.{field_of}
 use Rattle.program_line.specs.Line.{take_fields}
-use Rattle.program_line.specs.Reads.{state_of}
 use Rattle.program_line.proofs.take_fields.Goals as goal
 
 pub loop-i-init : goal.loop-i-init

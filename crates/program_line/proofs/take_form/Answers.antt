@@ -1,5 +1,4 @@
 -- `program_line::take_form` meets its contract. Assumes nothing.
-use borrow.Author.Rules.{rules}
 use mathlib.Core.Path.{ap, ◌∙◌}
 use Rattle.program_fields.specs.Fields.{lane, byte}
 use Rattle.program_line.specs.Line.{take_fields, take_form}

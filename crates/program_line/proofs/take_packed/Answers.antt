@@ -1,6 +1,5 @@
 -- `program_line::take_packed` meets its contract. Assumes nothing.
 use borrow.Author.Rules.{rules}
-use borrow.Author.Tests.{not-true, not-false}
 use native.Mathlib.Omega.{arith}
 use mathlib.Core.Path.{◌∙◌}
 use Rattle.program_digits.specs.Codes.{codes}

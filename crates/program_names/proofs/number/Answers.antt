@@ -1,5 +1,4 @@
 -- `program_names::number` meets its contract. Assumes nothing.
-use borrow.Author.Rules.{rules}
 use Rattle.program_digits.specs.Codes.{codes}
 use Rattle.program_words.specs.Cut.{pieces}
 use Rattle.program_names.specs.Names.{names, number}

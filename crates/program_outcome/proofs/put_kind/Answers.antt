@@ -1,5 +1,4 @@
 -- `program_outcome::put_kind` meets its contract. Assumes nothing.
-use borrow.Author.Rules.{rules}
 use native.Mathlib.Omega.{arith}
 use borrow.Author.Tests.{eq-eqb, ne_eqb}
 use Rattle.program_digits.specs.Codes.{codes}

@@ -1,5 +1,4 @@
 -- `program_outcome::put_left` meets its contract. Assumes nothing.
-use borrow.Author.Rules.{rules}
 use Rattle.program_digits.specs.Codes.{codes}
 use Rattle.program_digits.proofs.Puts.{then, said_as}
 use Rattle.program_outcome.proofs.Parts.{left_as}

@@ -1,5 +1,4 @@
 -- `program_outcome::put_scalar` meets its contract. Assumes nothing.
-use borrow.Author.Rules.{rules}
 use Rattle.program_digits.proofs.Puts.{then, said_as}
 use Rattle.program_outcome.proofs.Parts.{four, wide_digits, narrow_digits}
 use Rattle.program_outcome.proofs.put_scalar.Goals as goal

@@ -1,13 +1,10 @@
 -- `program_outcome::put_vector` meets its contract. Assumes nothing.
-use borrow.Author.Rules.{rules}
 use Prim.Native.Nat.{◌+◌, ◌-◌, ◌≤◌}
-use native.Mathlib.Omega.{arith}
 use mathlib.Core.Path.{◌≡◌}
 use lib.ListN.{length}
 use Rattle.calculator_rules.specs.Definition.{bytes}
 use Rattle.program_digits.specs.Digits.{hex_bytes}
-use Rattle.program_digits.proofs.Puts.{then, no_more, said_as, Completes}
-use Rattle.program_outcome.proofs.Parts.{one_byte, no_bytes}
+use Rattle.program_digits.proofs.Puts.{Completes}
 use Rattle.program_outcome.proofs.put_vector.Given as goal
 
 abbrev pub invariant-loop-i : goal.invariant-loop-i

@@ -1,5 +1,4 @@
 -- `program_step::put_field` meets its contract, by the kind of the field. Assumes nothing.
-use borrow.Author.Rules.{rules}
 use Rattle.program_digits.specs.Codes.{codes}
 use Rattle.program_step.specs.Shown.{field}
 use Rattle.program_step.proofs.put_field.Goals as goal

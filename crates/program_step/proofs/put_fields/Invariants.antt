@@ -1,14 +1,10 @@
 -- `program_step::put_fields` meets its contract: what is written so far, and one field more. Assumes nothing.
-use borrow.Author.Rules.{rules}
-use Prim.Native.Nat.{suc, ◌+◌, ◌-◌, ◌≤◌}
-use native.Mathlib.Omega.{arith}
-use mathlib.Core.Path.{◌≡◌, sym}
+use Prim.Native.Nat.{◌-◌, ◌≤◌}
+use mathlib.Core.Path.{◌≡◌}
 use lib.ListN.{length}
 use Rattle.program_digits.specs.Put.{Wrote}
-use Rattle.program_digits.proofs.Puts.{then, no_more, said_as}
 use Rattle.program_fields.specs.Values.{field_of}
 use Rattle.program_step.specs.Shown.{fields}
-use Rattle.program_step.proofs.Written.{fields_more}
 use Rattle.program_step.proofs.put_fields.Given as goal
 
 abbrev pub invariant-loop-i : goal.invariant-loop-i

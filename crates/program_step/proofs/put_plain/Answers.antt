@@ -1,5 +1,4 @@
 -- `program_step::put_plain` meets its contract. Assumes nothing.
-use borrow.Author.Rules.{rules}
 use Rattle.program_forms.specs.Takes.{takes_of}
 use Rattle.program_forms.proofs.Fits.{Fitting, form_fits}
 use native.Mathlib.Omega.{arith}

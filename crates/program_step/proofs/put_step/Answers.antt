@@ -1,5 +1,4 @@
 -- `program_step::put_step` meets its contract: the plain line is tried, and put where it says the step. Assumes nothing.
-use borrow.Author.Rules.{rules}
 use Prim.Native.Nat.{ℕ, ◌≤◌}
 use mathlib.Core.Path.{◌≡◌, refl, sym, ◌∙◌}
 use lib.ListN.{length, replicate}

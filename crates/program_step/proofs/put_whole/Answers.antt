@@ -1,5 +1,4 @@
 -- `program_step::put_whole` meets its contract. Assumes nothing.
-use borrow.Author.Rules.{rules}
 use Rattle.program_digits.proofs.Puts.{then}
 use Rattle.program_digits.specs.Codes.{codes}
 use Rattle.program_step.specs.Shown.{whole}

@@ -1,13 +1,11 @@
 -- `program_table::find` meets its contract: each turn passes one line. Assumes nothing.
-use borrow.Author.Rules.{rules}
-use Prim.Native.Nat.{ℕ, suc, ◌+◌, ◌-◌, ◌<◌, ◌≤◌}
+use Prim.Native.Nat.{◌-◌}
 use native.Mathlib.Nat.{add-zero}
 use mathlib.Core.Bool.{false≢true}
 use native.Mathlib.Omega.{arith}
 use mathlib.Core.Path.{◌≡◌, ◌∙◌, sym}
-use lib.ListN.{length, take, drop}
-use Rattle.program_words.specs.Cut.{newline, pieces}
-use Rattle.program_words.specs.Stops.{Scanned}
+use lib.ListN.{take, drop}
+use Rattle.program_words.specs.Cut.{newline}
 use Rattle.program_words.proofs.Scans.{scanned}
 use Rattle.program_words.proofs.Pieces.{first_piece, last_piece, next_piece}
 use Rattle.program_table.specs.Place.{place}

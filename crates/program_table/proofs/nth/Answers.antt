@@ -1,12 +1,10 @@
 -- `program_table::nth` meets its contract: each turn passes one line. Assumes nothing.
-use borrow.Author.Rules.{rules}
-use Prim.Native.Nat.{ℕ, suc, ◌+◌, ◌-◌, ◌<◌, ◌≤◌}
+use Prim.Native.Nat.{ℕ, suc, ◌-◌}
 use native.Mathlib.Omega.{arith}
 use mathlib.Core.Path.{◌≡◌, ◌∙◌, sym, ap}
 use mathlib.Core.List.{[]}
-use lib.ListN.{length, get_or, drop}
+use lib.ListN.{get_or, drop}
 use Rattle.program_words.specs.Cut.{newline, pieces}
-use Rattle.program_words.specs.Stops.{Scanned}
 use Rattle.program_words.proofs.Scans.{scanned}
 use Rattle.program_words.proofs.Pieces.{first_piece, last_piece, next_piece}
 use Rattle.program_table.proofs.nth.Goals as goal

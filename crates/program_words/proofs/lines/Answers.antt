@@ -1,12 +1,8 @@
 -- `program_words::lines` meets its contract: each turn passes one line. Assumes nothing.
-use borrow.Author.Rules.{rules}
-use Prim.Native.Nat.{suc, ◌+◌, ◌-◌, ◌<◌, ◌≤◌}
 use native.Mathlib.Omega.{arith}
-use mathlib.Core.Path.{◌≡◌, ap, ◌∙◌}
-use mathlib.Core.List.{List}
-use lib.ListN.{length, drop}
-use Rattle.program_words.specs.Cut.{newline, pieces}
-use Rattle.program_words.specs.Stops.{Scanned}
+use mathlib.Core.Path.{ap}
+use lib.ListN.{length}
+use Rattle.program_words.specs.Cut.{newline}
 use Rattle.program_words.proofs.Scans.{scanned}
 use Rattle.program_words.proofs.Pieces.{last_piece, next_piece}
 use Rattle.program_words.proofs.lines.Goals as goal
@@ -26,7 +22,9 @@ pub overflow_add-n : goal.overflow_add-n
 overflow_add-n c = omega (arith, (scanned newline _ _ _ c.loop-at.invariant.0 c.scan-end.ensures).high)
 
 pub loop-at-smaller : goal.loop-at-smaller
-loop-at-smaller c = omega (arith, (scanned newline _ _ _ c.loop-at.invariant.0 c.scan-end.ensures).low, (scanned newline _ _ _ c.loop-at.invariant.0 c.scan-end.ensures).high)
+loop-at-smaller c =
+    let scan = scanned newline _ _ _ c.loop-at.invariant.0 c.scan-end.ensures in
+    omega (arith, scan.low, scan.high)
 
 pub loop-at-preserved : goal.loop-at-preserved
 loop-at-preserved c =

@@ -1,14 +1,8 @@
 -- `program_words::lines` meets its contract: each turn passes one line. Assumes nothing.
-use borrow.Author.Rules.{rules}
-use Prim.Native.Nat.{suc, ◌+◌, ◌-◌, ◌<◌, ◌≤◌}
-use native.Mathlib.Omega.{arith}
-use mathlib.Core.Path.{◌≡◌, ap, ◌∙◌}
-use mathlib.Core.List.{List}
+use Prim.Native.Nat.{suc, ◌+◌, ◌-◌, ◌≤◌}
+use mathlib.Core.Path.{◌≡◌}
 use lib.ListN.{length, drop}
 use Rattle.program_words.specs.Cut.{newline, pieces}
-use Rattle.program_words.specs.Stops.{Scanned}
-use Rattle.program_words.proofs.Scans.{scanned}
-use Rattle.program_words.proofs.Pieces.{last_piece, next_piece}
 use Rattle.program_words.proofs.lines.Given as goal
 
 abbrev pub invariant-loop-at : goal.invariant-loop-at

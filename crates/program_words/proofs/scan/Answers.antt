@@ -1,10 +1,6 @@
 -- `program_words::scan` meets its contract: what is still to be scanned answers for the whole. Assumes nothing.
 use borrow.Author.Rules.{rules}
-use Prim.Native.Nat.{◌+◌, ◌-◌}
-use mathlib.Core.Path.{◌≡◌, refl, sym, ◌∙◌}
-use lib.ListN.{length, drop}
-use Rattle.program_words.specs.Cut.{before}
-use Rattle.program_words.specs.Stops.{stops}
+use mathlib.Core.Path.{refl, sym, ◌∙◌}
 use Rattle.program_words.proofs.Scans.{at_end, at_stop, at_other}
 use Rattle.program_words.proofs.scan.Goals as goal
 

@@ -1,11 +1,9 @@
 -- `program_words::scan` meets its contract: what is still to be scanned answers for the whole. Assumes nothing.
-use borrow.Author.Rules.{rules}
 use Prim.Native.Nat.{◌+◌, ◌-◌}
-use mathlib.Core.Path.{◌≡◌, refl, sym, ◌∙◌}
+use mathlib.Core.Path.{◌≡◌}
 use lib.ListN.{length, drop}
 use Rattle.program_words.specs.Cut.{before}
 use Rattle.program_words.specs.Stops.{stops}
-use Rattle.program_words.proofs.Scans.{at_end, at_stop, at_other}
 use Rattle.program_words.proofs.scan.Given as goal
 
 abbrev pub invariant-loop-i : goal.invariant-loop-i

@@ -1,10 +1,7 @@
 -- `program_words::statement` meets its contract: what is still to be read answers for the whole. Assumes nothing.
 use borrow.Author.Rules.{rules}
-use Prim.Native.Nat.{◌+◌, ◌-◌}
 use native.Mathlib.Nat.{zero-add}
-use mathlib.Core.Path.{◌≡◌, sym, ◌∙◌}
-use lib.ListN.{length, drop}
-use Rattle.program_words.specs.Cut.{statement as of-line}
+use mathlib.Core.Path.{sym, ◌∙◌}
 use Rattle.program_words.proofs.Scans.{ends, opens_here, goes_on}
 use Rattle.program_words.proofs.statement.Goals as goal
 

@@ -1,5 +1,4 @@
 -- `program_words::stops` meets its contract, by cases. Assumes nothing.
-use borrow.Author.Rules.{rules}
 use Rattle.program_words.proofs.stops.Goals as goal
 
 pub returns-in-Line : goal.returns-in-Line
