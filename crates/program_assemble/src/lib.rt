@@ -27,6 +27,9 @@ pub struct Taken {
     pub reason: u8,
 }
 
+// A text gives no more steps.
+const MOST_STEPS: usize = 256;
+
 // Puts the step of a line, if it has one, after those before it.
 fn take_line(line: &[u8], out: &mut [u8], steps: usize, at: usize) -> Taken
     requires { steps ≤ 256 }
@@ -44,7 +47,7 @@ fn take_line(line: &[u8], out: &mut [u8], steps: usize, at: usize) -> Taken
     if reason != 0 {
         return Taken { steps, at, reason };
     }
-    if steps == 256 {
+    if steps == MOST_STEPS {
         return Taken {
             steps,
             at,

@@ -15,8 +15,8 @@ returns-then-reason-ne0 c =
     takes_none _ _ _ _ c.requires _
     (read_refused read.result _ read.ensures c.if-read.false c.if-reason-ne0.true) c.if-reason-ne0.true
 
-pub returns-then-steps-eq256 : goal.returns-then-steps-eq256
-returns-then-steps-eq256 c =
+pub returns-then-steps-eq-MOST_STEPS : goal.returns-then-steps-eq-MOST_STEPS
+returns-then-steps-eq-MOST_STEPS c =
     let read = c.read_line-read in
     takes_full _ _ _ _ c.requires _
     (read_step read.result _ read.ensures c.if-read.false (search rules)) (search rules)
@@ -26,4 +26,4 @@ returns c =
     let read = c.read_line-read in
     takes_step _ _ _ _ c.requires _ _ _ (read_step read.result _ read.ensures
     c.if-read.false (search rules))
-    (omega (arith, c.if-steps-eq256.false, c.requires)) (search rules) c.put-next.ensures
+    (omega (arith, c.if-steps-eq-MOST_STEPS.false, c.requires)) (search rules) c.put-next.ensures
