@@ -1,0 +1,17 @@
+-- `memory_loads::lane64_from` meets its contract. Assumes nothing.
+use mathlib.Core.Path.{◌∙◌}
+use Rattle.memory_access.proofs.Shapes.{lane_loaded, lane_unloaded, lane_not_loaded}
+use Rattle.memory_loads.proofs.lane64_from.Goals as goal
+
+pub returns-then-lane-ge2 : goal.returns-then-lane-ge2
+returns-then-lane-ge2 c = lane_not_loaded _ _ _ 64 _ c.if-lane-ge2.true
+
+pub returns-in-Number : goal.returns-in-Number
+returns-in-Number c =
+    c.of_vector.ensures
+    ∙ lane_loaded _ _ _ 64 _ c.if-lane-ge2.false
+    (rw c.in-Number.is at c.fetch64.ensures) c.replace64.ensures
+
+pub returns-in-Past : goal.returns-in-Past
+returns-in-Past c = lane_unloaded _ _ _ 64 _ c.if-lane-ge2.false
+    (rw c.in-Past.is at c.fetch64.ensures)

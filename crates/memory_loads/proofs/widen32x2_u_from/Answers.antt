@@ -1,0 +1,11 @@
+-- `memory_loads::widen32x2_u_from` meets its contract. Assumes nothing.
+use Rattle.standard.specs.Integer.{extend_u}
+use Rattle.memory_access.proofs.Shapes.{widened, unwidened}
+use Rattle.memory_loads.proofs.widen32x2_u_from.Goals as goal
+
+pub returns-in-Number : goal.returns-in-Number
+returns-in-Number c = widened _ _ extend_u 32 (rw c.in-Number.is at c.fetch64.ensures)
+    c.v128_widen32x2_u.ensures
+
+pub returns-in-Past : goal.returns-in-Past
+returns-in-Past c = unwidened _ _ extend_u 32 (rw c.in-Past.is at c.fetch64.ensures)
