@@ -38,7 +38,7 @@ fn put(b: &[u8], bit: u16, out: &mut [u8])
     requires out_len { length out.old ≡ 512 }
     ensures { out.new ≡ cond (ltb bit 4096) (flipped bit b.now) b.now }
 {
-    bytes::copy(b, out);
+    out.copy_from_slice(b);
     if bit < NONE {
         let i = (bit / 8) as usize;
         out[i] = out[i] ^ weight(bit);

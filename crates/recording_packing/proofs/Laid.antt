@@ -88,7 +88,9 @@ module _ (N : ℕ) (rs : List ℕ) (lawful : Lawful N rs) where
 
     counted : count b ≡ held k
     unfolding b
-    counted = ap (λ (t : List ℕ). get_or t 2 0) (opened k (inside k) (short k)) ∙ (let e : length (inside k) / 64 ≡ held k = omega (arith, length_inside k) in e)
+    counted =
+        ap (λ (t : List ℕ). get_or t 2 0) (opened k (inside k) (short k))
+        ∙ (let e : length (inside k) / 64 ≡ held k = omega (arith, length_inside k) in e)
 
     third : get_or b 3 0 ≡ 0
     unfolding b

@@ -1,7 +1,6 @@
 // Field recordings (document 02, order 8): the definition, and what the recorder answers.
 #![tactic(auto)]
 
-
 // How many bytes were written, or why none were.
 #[derive(Clone, Copy)]
 pub enum Recorded {

@@ -35,12 +35,14 @@ returns-then-not-all_right c = not_right _ (sym c.is_whole.ensures ∙ c.if-not-
 
 pub returns-then-not-all_laid : goal.returns-then-not-all_laid
 returns-then-not-all_laid c =
-    not_laid _ (sym c.is_whole.ensures ∙ c.if-not-is_whole.false) (sym c.all_right.ensures ∙ c.if-not-all_right.false) (sym c.all_laid.ensures ∙ c.if-not-all_laid.true)
+    not_laid _ (sym c.is_whole.ensures ∙ c.if-not-is_whole.false) (sym c.all_right.ensures ∙ c.if-not-all_right.false)
+    (sym c.all_laid.ensures ∙ c.if-not-all_laid.true)
 
 pub returns : goal.returns
 returns c =
     ap recording c.count_records.ensures
-    ∙ all_well _ (sym c.is_whole.ensures ∙ c.if-not-is_whole.false) (sym c.all_right.ensures ∙ c.if-not-all_right.false) (sym c.all_laid.ensures ∙ c.if-not-all_laid.false)
+    ∙ all_well _ (sym c.is_whole.ensures ∙ c.if-not-is_whole.false) (sym c.all_right.ensures ∙ c.if-not-all_right.false)
+    (sym c.all_laid.ensures ∙ c.if-not-all_laid.false)
 
 pub all_laid-requires : goal.all_laid-requires
 all_laid-requires c = (whole _ (sym c.is_whole.ensures ∙ c.if-not-is_whole.false)).most

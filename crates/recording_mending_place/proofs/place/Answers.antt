@@ -9,7 +9,8 @@ returns-then-b-ne512 c = rw (ne_eqb _ _ c.if-b-ne512.true)
 
 pub returns-then-q-eq0 : goal.returns-then-q-eq0
 returns-then-q-eq0 c =
-    rw (eq-eqb _ _ c.if-b-ne512.false) (stays c.args.b.now (record { long = c.if-b-ne512.false; bytes = λ i. (c.type_inv.b i).fits }) (sym c.check-q.ensures ∙ c.if-q-eq0.true))
+    rw (eq-eqb _ _ c.if-b-ne512.false) (stays c.args.b.now (record { long = c.if-b-ne512.false; bytes = λ i. (c.type_inv.b i).fits })
+    (sym c.check-q.ensures ∙ c.if-q-eq0.true))
 
 pub returns-then-k-lt4096 : goal.returns-then-k-lt4096
 returns-then-k-lt4096 c =

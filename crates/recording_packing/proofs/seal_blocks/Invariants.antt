@@ -8,7 +8,8 @@ use Rattle.recording_packing.proofs.seal_blocks.Given as goal
 
 abbrev pub invariant-loop-k : goal.invariant-loop-k
 invariant-loop-k l =
-    (l.blocks ≡ (l.n + 6) / 7) × (l.k ≤ l.blocks) × (length l.out ≡ length l.initial.out) × (l.out ≡ packed_from l.k 0 (standing l.n l.initial.out) ++ drop (512 * l.k) l.initial.out)
+    (l.blocks ≡ (l.n + 6) / 7) × (l.k ≤ l.blocks) × (length l.out ≡ length l.initial.out)
+    × (l.out ≡ packed_from l.k 0 (standing l.n l.initial.out) ++ drop (512 * l.k) l.initial.out)
 
 abbrev pub decreases-loop-k : goal.decreases-loop-k
 decreases-loop-k l = l.blocks - l.k
