@@ -1,5 +1,0 @@
--- `calculator_state::registers::source_a` meets its contract: the register that the byte names. Assumes nothing.
-use Rattle.calculator_state.proofs.registers.source_a.Goals as goal
-
-pub returns : goal.returns
-returns c = rw (← c.byte.ensures) c.get.ensures

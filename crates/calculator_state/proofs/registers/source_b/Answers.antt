@@ -1,5 +1,0 @@
--- `calculator_state::registers::source_b` meets its contract: the register that the byte names. Assumes nothing.
-use Rattle.calculator_state.proofs.registers.source_b.Goals as goal
-
-pub returns : goal.returns
-returns c = rw (← c.byte.ensures) c.get.ensures
