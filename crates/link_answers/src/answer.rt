@@ -55,6 +55,7 @@ fn wide(x: u32) -> u64
     x as u64
 }
 
+#[tactic(auto, unfolding(crate::specs::Handed::pair))]
 pub fn of_i32(answer: I32Answer) -> BitsOrRefusal
     ensures { (result.bits, result.refused) ≡ pair (i32_answer answer) }
 {
@@ -67,6 +68,7 @@ pub fn of_i32(answer: I32Answer) -> BitsOrRefusal
     }
 }
 
+#[tactic(auto, unfolding(crate::specs::Handed::pair))]
 pub fn of_u32(answer: U32Answer) -> BitsOrRefusal
     ensures { (result.bits, result.refused) ≡ pair (u32_answer answer) }
 {
@@ -79,6 +81,7 @@ pub fn of_u32(answer: U32Answer) -> BitsOrRefusal
     }
 }
 
+#[tactic(auto, unfolding(crate::specs::Handed::pair))]
 pub fn of_i64(answer: I64Answer) -> BitsOrRefusal
     ensures { (result.bits, result.refused) ≡ pair (i64_answer answer) }
 {
@@ -91,6 +94,7 @@ pub fn of_i64(answer: I64Answer) -> BitsOrRefusal
     }
 }
 
+#[tactic(auto, unfolding(crate::specs::Handed::pair))]
 pub fn of_vector(answer: VectorAnswer) -> VectorOrRefusal
     ensures { (number result.vector, result.refused) ≡ pair (vector_answer answer) }
 {
@@ -103,6 +107,7 @@ pub fn of_vector(answer: VectorAnswer) -> VectorOrRefusal
     }
 }
 
+#[tactic(auto, unfolding(crate::specs::Handed::or_zero))]
 pub fn vector_or_zero(answer: VectorAnswer) -> V128
     ensures { number result ≡ or_zero (vector_answer answer) }
 {
@@ -122,6 +127,7 @@ fn nothing_loaded(refused: u8, shortfall: u64) -> Loaded
     }
 }
 
+#[tactic(auto, unfolding(crate::specs::Handed::access_numbers))]
 pub fn of_load(answer: LoadAnswer) -> Loaded
     ensures { (number result.vector, result.shortfall, result.refused) ≡ access_numbers (load_answer answer) }
 {
@@ -136,6 +142,7 @@ pub fn of_load(answer: LoadAnswer) -> Loaded
     }
 }
 
+#[tactic(auto, unfolding(crate::specs::Handed::access_or_zero, crate::specs::Handed::or_zero))]
 pub fn load_or_zero(answer: LoadAnswer) -> V128
     ensures { number result ≡ access_or_zero (load_answer answer) }
 {
@@ -147,6 +154,7 @@ pub fn load_or_zero(answer: LoadAnswer) -> V128
 }
 
 // Whatever memory the store leaves.
+#[tactic(auto, unfolding(crate::specs::Handed::store_numbers))]
 pub fn of_store(answer: StoreAnswer) -> Stored
     ensures { (after : List ℕ) → (result.shortfall, result.refused, after) ≡ store_numbers (store_answer answer after) }
 {
