@@ -1,5 +1,5 @@
 // i8x16 add, exclusive-or and popcnt over lent rows of vectors, written over the first row (document 02, order 6), in the form that documents 01 and 02 name: a
-// row is a slice of vector structs. The texts of the two functions on two rows are alike, since one proof serves both (proofs/TwoRows.antt).
+// row is a slice of vector structs. The texts of the two functions on two rows are alike, and one invariant serves both (`Turning`, proofs/Numbers.antt).
 #![tactic(auto)]
 
 ghost use Rattle.standard.specs.Integer.{iadd, ixor, ipopcnt};
