@@ -14,7 +14,8 @@ returns-then-not-is_whole c =
 pub returns-then-out-file : goal.returns-then-out-file
 unfolding mending
 returns-then-out-file c =
-    rw (sym c.is_whole.ensures ∙ c.if-not-is_whole.false, lt-leb _ _ c.if-out-file.true) (ap (λ (m : Mending). (m, c.args.out.now)) c.refusal-then-out-file.ensures)
+    rw (sym c.is_whole.ensures ∙ c.if-not-is_whole.false, lt-leb _ _ c.if-out-file.true)
+    (ap (λ (m : Mending). (m, c.args.out.now)) c.refusal-then-out-file.ensures)
 
 pub mend_blocks-requires : goal.mend_blocks-requires
 mend_blocks-requires c = record {

@@ -4,14 +4,12 @@ use mathlib.Core.List.{List}
 use Prim.Native.Nat.{ℕ, ◌+◌, ◌≤◌, ◌<◌}
 use native.Mathlib.Omega.{arith}
 use lib.ListN.{length, get_or, take, drop}
-use borrow.Author.Rules.{rules}
 use borrow.Author.Tests.{le-leb}
 use Rattle.standard.specs.Lanes.{digits}
 use Rattle.standard.specs.Refusal.{given}
 use Rattle.standard.specs.Memory.{answered, past, within, number_at, load}
 use Rattle.recording_fields.proofs.Words.{word_bytes}
-use Rattle.recording_compare.proofs.word.Statement.{statement}
-use Rattle.recording_compare.proofs.word.Tie as tie
+use Rattle.recording_compare.proofs.word.Goals as goal
 
 module _ (m : List ℕ) (at : ℕ) (h : at + 8 ≤ length m) where
   fetched : (x : ℕ) → ((i : ℕ) → get_or m i 0 < 256) → answered (given x) ≡ load 8 m at → digits 8 8 x ≡ take 8 (drop at m)
@@ -28,17 +26,12 @@ module _ (m : List ℕ) (at : ℕ) (h : at + 8 ≤ length m) where
       let z : ◌≡◌ {A = ℕ} 0 1 = cc in
       absurd (omega arith)
 
-returns : tie.Need-returns
-returns c =
-    let a = c.before.before.before.before.before.args in
-    fetched a.bytes.now a.at c.before.before.before.before.before.requires c.before.x.given.0.0
-    (λ i. (c.before.before.before.before.shared-slice-known.given i).fits) (rw c.before.x.given.1 at c.before.before.before.fetch64.ensures)
+pub returns-in-Number : goal.returns-in-Number
+returns-in-Number c =
+    let a = c.args in
+    fetched a.bytes.now a.at c.requires c.in-Number.x (λ i. (c.type_inv.bytes i).fits) c.in-Number.ensures
 
-returns-2 : tie.Need-returns-2
-returns-2 c =
-    let a = c.before.before.before.before.args in
-    never a.bytes.now a.at c.before.before.before.before.requires c.enum_told.given.0.0
-    (rw c.enum_told.given.1 at c.before.before.fetch64.ensures)
-
-pub word-spec : {M : Type 1} → statement M
-word-spec = tie.close (tie.spec (λ c κs. search rules) (λ c. search rules) (λ c. search rules) returns returns-2)
+pub returns-in-Past : goal.returns-in-Past
+returns-in-Past c =
+    let a = c.args in
+    never a.bytes.now a.at c.requires c.in-Past.field-0 c.in-Past.ensures
