@@ -5,8 +5,6 @@ use mathlib.Core.List.{List, [], ◌∷◌}
 use Prim.Native.Nat.{ℕ, ◌%◌, ◌≤◌}
 use native.Mathlib.Omega.{arith}
 use lib.Dec.{ltb, leb, eqb}
-use types.Run.{OneOf, miss}
-use denote.Enum.Declared.{tag_of}
 use borrow.Author.Tests.{leb-true, ne_eqb}
 use Rattle.standard.specs.Instruction.{Kind, Instruction, none, memory, const, shuffled, vector₁, vector₂, vector₃, shifted, tested, splatted, extracted}
 use Rattle.standard.specs.Instruction.{replaced, instruction}
@@ -16,11 +14,10 @@ use Rattle.calculator_rules.specs.Shape.{shape, profile_of}
 use Rattle.calculator_rules.specs.declared.shape.Shape.{Shape}
 use Rattle.calculator_rules.proofs.Judged.{one}
 use Rattle.calculator_rules.proofs.Shapes.{profile_kept}
-use Rattle.calculator_rules.specs.contracts.shape.Shape.{the_type}
 use Rattle.calculator_scalar.specs.Scalar.{scalar_of}
 use Rattle.calculator_scalar.specs.declared.Scalar.{Scalar}
 use Rattle.calculator_state.specs.State.{vectors, held}
-use Rattle.calculator_step.specs.Done.{writes, sets, numbers, does}
+use Rattle.calculator_step.specs.Done.{writes, sets, does}
 
 record Passed (p : Profile) (k : Kind) (s : List ℕ) : Type 0 where
   registers : all_registers (used p s) ≡ true
@@ -104,35 +101,33 @@ pub another_register : {ws vs : List ℕ} (ns : List ℕ) (r : Scalar) → ws �
     (record { registers = vs; writers = ns; kind = (scalar_of r).0; bits = (scalar_of r).1 })
 another_register ns r e = rw e
 
--- the shapes whose vector is written, as a match's last arm says it
-abbrev writing : List ℕ
-writing = 1 ∷ 2 ∷ 3 ∷ 4 ∷ 5 ∷ 6 ∷ 8 ∷ 10 ∷ []
+-- the shapes whose vector is written, as a match's last arm says it: none of those that the arms before it took
+pub stored : (x : Shape) (i : Instruction) (m : Machine) (s : List ℕ) → (x ≡ Shape.None → ⊥) → (x ≡ Shape.Test → ⊥) → ((n : ℕ) → x ≡ Shape.Extract n → ⊥)
+    → sets x i m s ≡ writes x i m s
+stored Shape.None i m s a b e = absurd (a refl)
+stored Shape.Constant i m s a b e = refl
+stored Shape.Shuffle i m s a b e = refl
+stored Shape.Unary i m s a b e = refl
+stored Shape.Binary i m s a b e = refl
+stored Shape.Ternary i m s a b e = refl
+stored Shape.Shift i m s a b e = refl
+stored Shape.Test i m s a b e = absurd (b refl)
+stored (Shape.Splat k) i m s a b e = refl
+stored (Shape.Extract n) i m s a b e = absurd (e n refl)
+stored (Shape.Replace n k) i m s a b e = refl
 
-pub stored : (x : Shape) (i : Instruction) (m : Machine) (s : List ℕ) → OneOf writing (tag_of the_type x) → sets x i m s ≡ writes x i m s
-stored Shape.None i m s h = absurd (miss writing 0 tt h)
-stored Shape.Constant i m s h = refl
-stored Shape.Shuffle i m s h = refl
-stored Shape.Unary i m s h = refl
-stored Shape.Binary i m s h = refl
-stored Shape.Ternary i m s h = refl
-stored Shape.Shift i m s h = refl
-stored Shape.Test i m s h = absurd (miss writing 7 tt h)
-stored (Shape.Splat k) i m s h = refl
-stored (Shape.Extract n) i m s h = absurd (miss writing 9 tt h)
-stored (Shape.Replace n k) i m s h = refl
-
-pub gives : (x : Shape) → OneOf writing (tag_of the_type x) → (profile_of x).gives_vector ≡ true
-gives Shape.None h = absurd (miss writing 0 tt h)
-gives Shape.Constant h = refl
-gives Shape.Shuffle h = refl
-gives Shape.Unary h = refl
-gives Shape.Binary h = refl
-gives Shape.Ternary h = refl
-gives Shape.Shift h = refl
-gives Shape.Test h = absurd (miss writing 7 tt h)
-gives (Shape.Splat k) h = refl
-gives (Shape.Extract n) h = absurd (miss writing 9 tt h)
-gives (Shape.Replace n k) h = refl
+pub gives : (x : Shape) → (x ≡ Shape.None → ⊥) → (x ≡ Shape.Test → ⊥) → ((n : ℕ) → x ≡ Shape.Extract n → ⊥) → (profile_of x).gives_vector ≡ true
+gives Shape.None a b e = absurd (a refl)
+gives Shape.Constant a b e = refl
+gives Shape.Shuffle a b e = refl
+gives Shape.Unary a b e = refl
+gives Shape.Binary a b e = refl
+gives Shape.Ternary a b e = refl
+gives Shape.Shift a b e = refl
+gives Shape.Test a b e = absurd (b refl)
+gives (Shape.Splat k) a b e = refl
+gives (Shape.Extract n) a b e = absurd (e n refl)
+gives (Shape.Replace n k) a b e = refl
 
 -- a step whose operation's shape is x, where the judge says r
 module _ (place : ℕ) (m : Machine) (s : List ℕ) (op r : ℕ) (x : Shape) (o : op ≡ operation s) (d : x ≡ shape (instruction op))
