@@ -1,5 +1,5 @@
 -- `direct::answering::answer_all` is safe and ends: each turn starts further on, within the chunk, and the answers stay within the output. Assumes nothing.
-use Rattle.std.proofs.Common.{◌≡◌, ◌-◌, ◌≤◌, length, rules}
+use Rattle.std.proofs.Common.{◌≡◌, ◌-◌, ◌≤◌, length}
 use Rattle.direct.proofs.answering.answer_all.Given as goal
 
 abbrev pub invariant-loop-at : goal.invariant-loop-at

@@ -1,5 +1,5 @@
 -- `direct::checking::check_all` is safe and ends: each turn starts further on, within the chunk. Assumes nothing.
-use Rattle.std.proofs.Common.{◌-◌, ◌≤◌, length, rules}
+use Rattle.std.proofs.Common.{◌-◌, ◌≤◌, length}
 use Rattle.direct.proofs.checking.check_all.Given as goal
 
 abbrev pub invariant-loop-at : goal.invariant-loop-at

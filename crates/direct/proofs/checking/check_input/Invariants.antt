@@ -1,6 +1,8 @@
 -- `direct::checking::check_input` is safe and ends: the turns count down. Assumes nothing.
-use Rattle.std.proofs.Common.{rules}
 use Rattle.direct.proofs.checking.check_input.Given as goal
+
+abbrev pub invariant-loop-turns : goal.invariant-loop-turns
+invariant-loop-turns l = Unit {0}
 
 abbrev pub decreases-loop-turns : goal.decreases-loop-turns
 decreases-loop-turns l = l.turns
