@@ -6,18 +6,11 @@ use mir.Val.{Fits}
 use Rattle.standard.specs.Integer.{signed, modulo}
 use Rattle.lane_integer.proofs.Magnitude.{kept}
 use Rattle.lane_integer.proofs.Signed.{modulo_signed}
-use Rattle.link_station.proofs.calculation.i64_of.Statement.{statement}
-use Rattle.link_station.proofs.calculation.i64_of.Tie as tie
+use Rattle.link_station.proofs.calculation.i64_of.Goals as goal
 
-signed64-requires : tie.Need-signed64-requires
-signed64-requires c κs = search rules
-
-returns : tie.Need-returns
+pub returns : goal.returns
 returns c =
-    let x = c.before.args.bits in
+    let x = c.args.bits in
     let f : Fits w64 x = search rules in
     let e : modulo 64 (signed 64 x) ≡ x = modulo_signed w64 x f in
-    rw (kept w64 c.signed64.type-inv c.signed64.ensures, e)
-
-pub i64-of-spec : {M : Type 1} → statement M
-i64-of-spec = tie.close (tie.spec signed64-requires returns)
+    rw (kept w64 c.signed64.type_inv c.signed64.ensures, e)
