@@ -67,12 +67,15 @@ fn check_some(rt: &HostRuntime, rows: &mut [u64; 256], differ: &mut [u64; 256]) 
     n == CHUNK
 }
 
+fn print_set(rt: &HostRuntime, set: u64, rows: u64, differ: u64) -> io::Result<()> {
+    println!(rt; "set {set} rows {rows} differ {differ}")
+}
+
 // A line for each set that occurred.
 fn print_sets(rt: &HostRuntime, rows: &[u64; 256], differ: &[u64; 256]) -> io::Result<()> {
     for i in 0..256 {
-        let (rows, differ) = (rows[i], differ[i]);
-        if rows != 0 {
-            println!(rt; "set {i} rows {rows} differ {differ}")?;
+        if rows[i] != 0 {
+            print_set(rt, i as u64, rows[i], differ[i])?;
         }
     }
     Ok(())
