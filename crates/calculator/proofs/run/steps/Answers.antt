@@ -1,0 +1,89 @@
+-- `calculator::run::steps` meets its contract: what is left of the run from the state that is left is the run. Assumes nothing.
+use mathlib.Core.Path.{◌≡◌, sym, ◌∙◌}
+use Prim.Native.Nat.{◌+◌, ◌/◌, ◌*◌, ◌-◌, ◌<◌}
+use native.Mathlib.Omega.{arith}
+use lib.ListN.{length, take, drop}
+use borrow.Author.Tests.{ne_eqb}
+use Rattle.standard.specs.Refusal.{given, refused}
+use Rattle.calculator_rules.specs.Definition.{step}
+use Rattle.calculator_state.specs.State.{held}
+use Rattle.calculator.proofs.Runs.{starts, turn, stop, stops_here}
+use Rattle.calculator.proofs.run.steps.Goals as goal
+
+pub loop-at-init : goal.loop-at-init
+loop-at-init c =
+    let a = c.args in
+    (omega arith, omega (arith, c.stop-end.ensures), starts (length a.list.now / 32) a.place a.limit a.list.now _)
+
+pub returns-then-refused-ne0 : goal.returns-then-refused-ne0
+returns-then-refused-ne0 c =
+    let l = c.loop-at in
+    let s = c.stop-end in
+    let a = c.args in
+    let list = a.list.now in
+    let n = length list / 32 in
+    let t = c.if-refused-ne0.true in
+    let more : l.at < n = omega (arith, s.ensures) in
+    let allowed : l.at < a.place + a.limit = omega (arith, s.ensures) in
+    let part : 32 * l.at + 32 - 32 * l.at ≡ 32 = omega arith in
+    let e : step l.at (held l.w l.writers l.scalar) (take 32 (drop (32 * l.at) list)) ≡ refused c.step-stepped.result.refused =
+    (rw (part, ne_eqb _ _ t) at (sym c.step-stepped.ensures.result)) in
+    let left = c.step-stepped.ensures.left t in
+    rw (left.0, left.1, left.2)
+    (sym (stop n a.place a.limit l.at list (held l.w l.writers l.scalar) l.invariant.0 more allowed _ e) ∙ l.invariant.2)
+
+pub loop-at-preserved : goal.loop-at-preserved
+loop-at-preserved c =
+    let l = c.loop-at in
+    let s = c.stop-end in
+    let a = c.args in
+    let list = a.list.now in
+    let n = length list / 32 in
+    let more : l.at < n = omega (arith, s.ensures) in
+    let allowed : l.at < a.place + a.limit = omega (arith, s.ensures) in
+    let part : 32 * l.at + 32 - 32 * l.at ≡ 32 = omega arith in
+    let e : step l.at (held l.w l.writers l.scalar) (take 32 (drop (32 * l.at) list))
+    ≡ given (held c.step-stepped.new.w c.step-stepped.new.writers c.step-stepped.result.scalar) =
+    (rw (part, c.if-refused-ne0.false) at (sym c.step-stepped.ensures.result)) in
+    (omega arith, omega arith, sym (turn n a.place a.limit l.at list (held l.w l.writers l.scalar) l.invariant.0 more allowed _ e) ∙ l.invariant.2)
+
+pub returns : goal.returns
+returns c =
+    let l = c.loop-at in
+    let s = c.stop-end in
+    let a = c.args in
+    let list = a.list.now in
+    let n = length list / 32 in
+    let met : l.at < n → l.at ≡ a.place + a.limit = λ h. omega (arith, s.ensures) in
+    rw c.stopped_at.ensures
+    (sym (stops_here n a.place a.limit l.at list (held l.w l.writers l.scalar) l.invariant.0 met) ∙ l.invariant.2)
+
+pub overflow_mul-from : goal.overflow_mul-from
+overflow_mul-from c = omega arith
+
+pub overflow_add-to : goal.overflow_add-to
+overflow_add-to c = omega arith
+
+pub overflow_cast-at : goal.overflow_cast-at
+overflow_cast-at c = omega arith
+
+pub slice_bounds-step-count : goal.slice_bounds-step-count
+slice_bounds-step-count c = omega arith
+
+pub slice_bounds-step-start : goal.slice_bounds-step-start
+slice_bounds-step-start c = omega arith
+
+pub slice_bounds-step-end : goal.slice_bounds-step-end
+slice_bounds-step-end c = omega arith
+
+pub overflow_sub-result : goal.overflow_sub-result
+overflow_sub-result c = omega arith
+
+pub overflow_add-at : goal.overflow_add-at
+overflow_add-at c = omega arith
+
+pub loop-at-smaller : goal.loop-at-smaller
+loop-at-smaller c = omega arith
+
+pub overflow_sub-result-2 : goal.overflow_sub-result-2
+overflow_sub-result-2 c = omega arith
