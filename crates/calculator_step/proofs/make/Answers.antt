@@ -43,7 +43,7 @@ returns-in-Ternary c = rw (
 ) c.ternary.ensures
 
 pub returns-in-Shift : goal.returns-in-Shift
-returns-in-Shift c = rw (c.in-Shift.is, ← c.source_a-a.ensures, ← c.count.ensures) c.shift.ensures
+returns-in-Shift c = rw c.in-Shift.is (cc)
 
 pub returns-in-Test : goal.returns-in-Test
 returns-in-Test c = rw c.in-Test.is c.source_a-a.ensures
@@ -55,5 +55,4 @@ pub returns-in-Extract : goal.returns-in-Extract
 returns-in-Extract c = rw c.in-Extract.is c.source_a-a.ensures
 
 pub returns-in-Replace : goal.returns-in-Replace
-returns-in-Replace c = rw (c.in-Replace.is, ← c.source_a-a.ensures, ← c.byte.ensures)
-    c.replace.ensures
+returns-in-Replace c = rw c.in-Replace.is (cc)
