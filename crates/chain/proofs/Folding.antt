@@ -28,7 +28,8 @@ module _ (links : List (List ℕ)) (k : ℕ) (current : List ℕ) (f : Folding l
   bytes = lanes_joined 8 refl current f.0 f.1.0
 
   pub goes_on : (d next : List ℕ) → k < length links → all_legal links ≡ true → length next ≡ 16
-      → next ≡ map (λ i. get_or (current ++ partner (get_or (get_or links k d) 0 0) (counted 16 0) (counted 16 16) current) (i % 32) 0) (indices (get_or links k d))
+      → next ≡ map (λ i. get_or (current ++ partner (get_or (get_or links k d) 0 0) (counted 16 0) (counted 16 16) current) (i % 32) 0)
+      (indices (get_or links k d))
       → Folding links (k + 1) next
   unfolding chained
   goes_on d next h legal e is =

@@ -63,8 +63,8 @@ by_halves (suc n) a b c d ha hc = bitwise_halves _ a b c d ha hc refl refl
 abbrev pub Turning : (ℕ → ℕ → ℕ) → List ℕ → List ℕ → List ℕ → ℕ → Type 0
 Turning g xs ys zs i = (i ≤ length xs) × ((length zs ≡ length xs) × ((length ys ≡ length xs) × Upto (Halved g) i xs ys zs))
 
-pub turned : (g : ℕ → ℕ → ℕ) (xs ys zs : List ℕ) (i r : ℕ) → Turning g xs ys zs i → i < length xs → Fits w64 (get_or zs i 0) → Fits w64 (get_or ys i 0) → r < 2 ^ 64
-    → r ≡ g (get_or zs i 0) (get_or ys i 0) → Turning g xs ys (set zs i r) (i + 1)
+pub turned : (g : ℕ → ℕ → ℕ) (xs ys zs : List ℕ) (i r : ℕ) → Turning g xs ys zs i → i < length xs → Fits w64 (get_or zs i 0)
+    → Fits w64 (get_or ys i 0) → r < 2 ^ 64 → r ≡ g (get_or zs i 0) (get_or ys i 0) → Turning g xs ys (set zs i r) (i + 1)
 turned g xs ys zs i r (h, (lz, (ly, u))) less fz fy fr e =
     let was = same (Halved g) i xs ys zs 0 u in
     let done = next (Halved g) i xs ys zs 0 r less (omega (arith, ly)) u

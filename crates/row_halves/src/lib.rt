@@ -68,6 +68,7 @@ pub fn v128_xor(first: &mut [u64], second: &[u64]) -> u8
     combine(XOR, first, second)
 }
 
+#[tactic(auto, using(crate::proofs::Pairs::kept))]
 pub fn i8x16_popcnt(first: &mut [u64]) -> u8
     ensures value { result ≡ half_refusal (length first.old) (length first.old) }
     ensures first_after { first.new ≡ after result (halves (map (unary 8 (ipopcnt 8)) (vectors first.old))) first.old }

@@ -1,11 +1,8 @@
 -- `row_halves::i8x16_popcnt` meets its contract: a loop over the halves, with the row beside itself for a second. Assumes nothing.
-use mathlib.Core.Path.{refl, sym, ◌∙◌}
+use mathlib.Core.Path.{◌≡◌, refl, sym, ◌∙◌}
 use borrow.Author.Rules.{rules}
-use Rattle.row_halves.proofs.Pairs.{fits, turned, all_counted, kept}
+use Rattle.row_halves.proofs.Pairs.{fits, turned, all_counted}
 use Rattle.row_halves.proofs.i8x16_popcnt.Goals as goal
-
-pub returns-then-odd-ne0 : goal.returns-then-odd-ne0
-returns-then-odd-ne0 c = record { value = c.judge-odd.ensures; first_after = kept _ _ _ c.if-odd-ne0.true }
 
 pub loop-i-init : goal.loop-i-init
 loop-i-init c = (search rules, (refl, (refl, refl)))
@@ -22,7 +19,7 @@ shape_of-first c = c.loop-i.invariant.1.0
 pub returns : goal.returns
 returns c =
     let judged = c.judge-odd.ensures in
-    let unrefused = c.if-odd-ne0.false in
+    let unrefused : c.judge-odd.result ≡ 0 = search rules in
     record {
       value = judged;
       first_after = rw unrefused (all_counted _ _ c.loop-i.i (fits _ _ (sym judged ∙ unrefused)).1 (search rules) c.loop-i.invariant);
