@@ -2,7 +2,8 @@
 use Rattle.std.proofs.Common.{arith}
 use Rattle.memory_bounds.proofs.Bounds.{within_reach, beyond_reach}
 use Rattle.memory_bounds.proofs.reach_sum.Goals as goal
-use Rattle.memory_bounds.proofs.reach_sum.Goals.{then-at-ptr-via-then-at-ptr, then-at-ptr-via-else-at-ptr+then-length-n, then-at-ptr-via-else-at-ptr+else-length-n+then-length-n-2}
+use Rattle.memory_bounds.proofs.reach_sum.Goals.{then-at-ptr-via-then-at-ptr, then-at-ptr-via-else-at-ptr+then-length-n}
+use Rattle.memory_bounds.proofs.reach_sum.Goals.{then-at-ptr-via-else-at-ptr+else-length-n+then-length-n-2}
 
 pub returns-then-at-ptr : goal.returns-then-at-ptr
 returns-then-at-ptr c =
