@@ -131,6 +131,10 @@ fn counted(counts: Counts, vectors: usize, differs: bool) -> Counts {
     }
 }
 
+fn line(rt: &HostRuntime, name: &str, n: u64) -> io::Result<()> {
+    println!(rt; "{name} {n}")
+}
+
 // The turns count down, so that the program ends whatever is handed in.
 fn main(rt: HostRuntime) -> io::Result<()> {
     let mut counts = Counts {
@@ -148,12 +152,7 @@ fn main(rt: HostRuntime) -> io::Result<()> {
         counts = counted(counts, vectors(&record), n < RECORD || differs(&record));
         turns -= 1;
     }
-    let Counts {
-        records,
-        vectors,
-        differ,
-    } = counts;
-    println!(rt; "records {records}")?;
-    println!(rt; "vectors {vectors}")?;
-    println!(rt; "differ {differ}")
+    line(&rt, "records", counts.records)?;
+    line(&rt, "vectors", counts.vectors)?;
+    line(&rt, "differ", counts.differ)
 }
