@@ -1,4 +1,4 @@
-// What is asked of all lanes of a half at once: any_true, all-true and bitmask (document 01, "Lane rules"; the standard, 4.4.3). The bitmask alone takes
+// What is asked of all lanes of a half at once: any-true, all-true and bitmask (document 01, "Lane rules"; the standard, 4.4.3). The bitmask alone takes
 // the half apart into its lanes (document 02, order 7).
 #![tactic(auto)]
 
