@@ -1,6 +1,6 @@
 // The library as C and Rust link it: every function of simd.rs that is carried over, under its name behind `gatulefo_`, the packed forms behind
 // `gatulefo_packed_`, and what a caller of the whole needs. A vector goes in and comes out by value, as its two halves; a scalar as its bits; memory as a byte
-// slice. Each promises what the library promises. `rt staticlib gatulefo` makes the archive, link/gatulefo.h declares its functions for C, and link/rust is the
+// slice. Each promises what the library promises. `link/archive` makes the archive, link/gatulefo.h declares its functions for C, and link/rust is the
 // interface of simd.rs over them.
 #![tactic(auto)]
 

@@ -1,8 +1,0 @@
--- `gatulefo::arithmetic::gatulefo_i16x8_add` meets its contract, which is that of `i16x8_add`.
--- Made by link/exports. Assumes nothing.
-use Rattle.standard.proofs.Calls.{nothing}
-use Rattle.gatulefo.proofs.arithmetic.gatulefo_i16x8_add.Statement.{statement}
-use Rattle.gatulefo.proofs.arithmetic.gatulefo_i16x8_add.Tie as tie
-
-pub gatulefo-i16x8-add-spec : {M : Type 1} → statement M
-gatulefo-i16x8-add-spec = tie.close (tie.spec nothing (λ c. c.i16x8-add.ensures))

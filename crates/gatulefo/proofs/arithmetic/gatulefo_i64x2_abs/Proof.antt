@@ -1,8 +1,0 @@
--- `gatulefo::arithmetic::gatulefo_i64x2_abs` meets its contract, which is that of `i64x2_abs`.
--- Made by link/exports. Assumes nothing.
-use Rattle.standard.proofs.Calls.{nothing}
-use Rattle.gatulefo.proofs.arithmetic.gatulefo_i64x2_abs.Statement.{statement}
-use Rattle.gatulefo.proofs.arithmetic.gatulefo_i64x2_abs.Tie as tie
-
-pub gatulefo-i64x2-abs-spec : {M : Type 1} → statement M
-gatulefo-i64x2-abs-spec = tie.close (tie.spec nothing (λ c. c.i64x2-abs.ensures))

@@ -1,8 +1,0 @@
--- `gatulefo::arithmetic::gatulefo_i8x16_min_u` meets its contract, which is that of `i8x16_min_u`.
--- Made by link/exports. Assumes nothing.
-use Rattle.standard.proofs.Calls.{nothing}
-use Rattle.gatulefo.proofs.arithmetic.gatulefo_i8x16_min_u.Statement.{statement}
-use Rattle.gatulefo.proofs.arithmetic.gatulefo_i8x16_min_u.Tie as tie
-
-pub gatulefo-i8x16-min-u-spec : {M : Type 1} → statement M
-gatulefo-i8x16-min-u-spec = tie.close (tie.spec nothing (λ c. c.i8x16-min-u.ensures))

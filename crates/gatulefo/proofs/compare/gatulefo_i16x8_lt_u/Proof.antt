@@ -1,8 +1,0 @@
--- `gatulefo::compare::gatulefo_i16x8_lt_u` meets its contract, which is that of `i16x8_lt_u`.
--- Made by link/exports. Assumes nothing.
-use Rattle.standard.proofs.Calls.{nothing}
-use Rattle.gatulefo.proofs.compare.gatulefo_i16x8_lt_u.Statement.{statement}
-use Rattle.gatulefo.proofs.compare.gatulefo_i16x8_lt_u.Tie as tie
-
-pub gatulefo-i16x8-lt-u-spec : {M : Type 1} → statement M
-gatulefo-i16x8-lt-u-spec = tie.close (tie.spec nothing (λ c. c.i16x8-lt-u.ensures))

@@ -1,8 +1,0 @@
--- `gatulefo::compare::gatulefo_i32x4_ge_u` meets its contract, which is that of `i32x4_ge_u`.
--- Made by link/exports. Assumes nothing.
-use Rattle.standard.proofs.Calls.{nothing}
-use Rattle.gatulefo.proofs.compare.gatulefo_i32x4_ge_u.Statement.{statement}
-use Rattle.gatulefo.proofs.compare.gatulefo_i32x4_ge_u.Tie as tie
-
-pub gatulefo-i32x4-ge-u-spec : {M : Type 1} → statement M
-gatulefo-i32x4-ge-u-spec = tie.close (tie.spec nothing (λ c. c.i32x4-ge-u.ensures))

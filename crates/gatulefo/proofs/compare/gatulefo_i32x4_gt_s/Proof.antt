@@ -1,8 +1,0 @@
--- `gatulefo::compare::gatulefo_i32x4_gt_s` meets its contract, which is that of `i32x4_gt_s`.
--- Made by link/exports. Assumes nothing.
-use Rattle.standard.proofs.Calls.{nothing}
-use Rattle.gatulefo.proofs.compare.gatulefo_i32x4_gt_s.Statement.{statement}
-use Rattle.gatulefo.proofs.compare.gatulefo_i32x4_gt_s.Tie as tie
-
-pub gatulefo-i32x4-gt-s-spec : {M : Type 1} → statement M
-gatulefo-i32x4-gt-s-spec = tie.close (tie.spec nothing (λ c. c.i32x4-gt-s.ensures))

@@ -1,8 +1,0 @@
--- `gatulefo::convert::gatulefo_f64x2_nearest` meets its contract, which is that of `f64x2_nearest`.
--- Made by link/exports. Assumes nothing.
-use Rattle.standard.proofs.Calls.{nothing}
-use Rattle.gatulefo.proofs.convert.gatulefo_f64x2_nearest.Statement.{statement}
-use Rattle.gatulefo.proofs.convert.gatulefo_f64x2_nearest.Tie as tie
-
-pub gatulefo-f64x2-nearest-spec : {M : Type 1} → statement M
-gatulefo-f64x2-nearest-spec = tie.close (tie.spec nothing (λ c. c.f64x2-nearest.ensures))

@@ -1,8 +1,0 @@
--- `gatulefo::convert::gatulefo_f64x2_trunc` meets its contract, which is that of `f64x2_trunc`.
--- Made by link/exports. Assumes nothing.
-use Rattle.standard.proofs.Calls.{nothing}
-use Rattle.gatulefo.proofs.convert.gatulefo_f64x2_trunc.Statement.{statement}
-use Rattle.gatulefo.proofs.convert.gatulefo_f64x2_trunc.Tie as tie
-
-pub gatulefo-f64x2-trunc-spec : {M : Type 1} → statement M
-gatulefo-f64x2-trunc-spec = tie.close (tie.spec nothing (λ c. c.f64x2-trunc.ensures))

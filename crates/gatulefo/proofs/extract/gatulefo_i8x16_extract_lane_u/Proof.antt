@@ -1,9 +1,0 @@
--- `gatulefo::extract::gatulefo_i8x16_extract_lane_u` meets its contract: the answer of `i8x16_extract_lane_u` as C is handed it. Assumes nothing.
-use mathlib.Core.Path.{ap, ◌∙◌}
-use Rattle.standard.proofs.Calls.{nothing}
-use Rattle.link_answers.specs.Handed.{pair}
-use Rattle.gatulefo.proofs.extract.gatulefo_i8x16_extract_lane_u.Statement.{statement}
-use Rattle.gatulefo.proofs.extract.gatulefo_i8x16_extract_lane_u.Tie as tie
-
-pub gatulefo-i8x16-extract-lane-u-spec : {M : Type 1} → statement M
-gatulefo-i8x16-extract-lane-u-spec = tie.close (tie.spec nothing nothing (λ c. c.of-u32.ensures ∙ ap pair c.before.i8x16-extract-lane-u.ensures))

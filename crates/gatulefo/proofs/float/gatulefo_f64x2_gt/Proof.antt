@@ -1,8 +1,0 @@
--- `gatulefo::float::gatulefo_f64x2_gt` meets its contract, which is that of `f64x2_gt`.
--- Made by link/exports. Assumes nothing.
-use Rattle.standard.proofs.Calls.{nothing}
-use Rattle.gatulefo.proofs.float.gatulefo_f64x2_gt.Statement.{statement}
-use Rattle.gatulefo.proofs.float.gatulefo_f64x2_gt.Tie as tie
-
-pub gatulefo-f64x2-gt-spec : {M : Type 1} → statement M
-gatulefo-f64x2-gt-spec = tie.close (tie.spec nothing (λ c. c.f64x2-gt.ensures))

@@ -1,8 +1,0 @@
--- `gatulefo::float::gatulefo_f64x2_pmin` meets its contract, which is that of `f64x2_pmin`.
--- Made by link/exports. Assumes nothing.
-use Rattle.standard.proofs.Calls.{nothing}
-use Rattle.gatulefo.proofs.float.gatulefo_f64x2_pmin.Statement.{statement}
-use Rattle.gatulefo.proofs.float.gatulefo_f64x2_pmin.Tie as tie
-
-pub gatulefo-f64x2-pmin-spec : {M : Type 1} → statement M
-gatulefo-f64x2-pmin-spec = tie.close (tie.spec nothing (λ c. c.f64x2-pmin.ensures))

@@ -1,8 +1,0 @@
--- `gatulefo::packed_form::gatulefo_packed_i32x4_neg` meets its contract, which is that of `i32x4_neg`.
--- Made by link/exports. Assumes nothing.
-use Rattle.standard.proofs.Calls.{nothing}
-use Rattle.gatulefo.proofs.packed_form.gatulefo_packed_i32x4_neg.Statement.{statement}
-use Rattle.gatulefo.proofs.packed_form.gatulefo_packed_i32x4_neg.Tie as tie
-
-pub gatulefo-packed-i32x4-neg-spec : {M : Type 1} → statement M
-gatulefo-packed-i32x4-neg-spec = tie.close (tie.spec nothing (λ c. c.i32x4-neg.ensures))

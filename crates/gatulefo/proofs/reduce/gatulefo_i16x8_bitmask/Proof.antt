@@ -1,8 +1,0 @@
--- `gatulefo::reduce::gatulefo_i16x8_bitmask` meets its contract, which is that of `i16x8_bitmask`.
--- Made by link/exports. Assumes nothing.
-use Rattle.standard.proofs.Calls.{nothing}
-use Rattle.gatulefo.proofs.reduce.gatulefo_i16x8_bitmask.Statement.{statement}
-use Rattle.gatulefo.proofs.reduce.gatulefo_i16x8_bitmask.Tie as tie
-
-pub gatulefo-i16x8-bitmask-spec : {M : Type 1} → statement M
-gatulefo-i16x8-bitmask-spec = tie.close (tie.spec nothing (λ c. c.i16x8-bitmask.ensures))

@@ -1,8 +1,0 @@
--- `gatulefo::reduce::gatulefo_i64x2_all_true` meets its contract, which is that of `i64x2_all_true`.
--- Made by link/exports. Assumes nothing.
-use Rattle.standard.proofs.Calls.{nothing}
-use Rattle.gatulefo.proofs.reduce.gatulefo_i64x2_all_true.Statement.{statement}
-use Rattle.gatulefo.proofs.reduce.gatulefo_i64x2_all_true.Tie as tie
-
-pub gatulefo-i64x2-all-true-spec : {M : Type 1} → statement M
-gatulefo-i64x2-all-true-spec = tie.close (tie.spec nothing (λ c. c.i64x2-all-true.ensures))

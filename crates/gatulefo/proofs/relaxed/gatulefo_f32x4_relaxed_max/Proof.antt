@@ -1,8 +1,0 @@
--- `gatulefo::relaxed::gatulefo_f32x4_relaxed_max` meets its contract, which is that of `f32x4_relaxed_max`.
--- Made by link/exports. Assumes nothing.
-use Rattle.standard.proofs.Calls.{nothing}
-use Rattle.gatulefo.proofs.relaxed.gatulefo_f32x4_relaxed_max.Statement.{statement}
-use Rattle.gatulefo.proofs.relaxed.gatulefo_f32x4_relaxed_max.Tie as tie
-
-pub gatulefo-f32x4-relaxed-max-spec : {M : Type 1} → statement M
-gatulefo-f32x4-relaxed-max-spec = tie.close (tie.spec nothing (λ c. c.f32x4-relaxed-max.ensures))

@@ -1,8 +1,0 @@
--- `gatulefo::relaxed::gatulefo_i16x8_relaxed_dot_i8x16_i7x16_s` meets its contract, which is that of `i16x8_relaxed_dot_i8x16_i7x16_s`.
--- Made by link/exports. Assumes nothing.
-use Rattle.standard.proofs.Calls.{nothing}
-use Rattle.gatulefo.proofs.relaxed.gatulefo_i16x8_relaxed_dot_i8x16_i7x16_s.Statement.{statement}
-use Rattle.gatulefo.proofs.relaxed.gatulefo_i16x8_relaxed_dot_i8x16_i7x16_s.Tie as tie
-
-pub gatulefo-i16x8-relaxed-dot-i8x16-i7x16-s-spec : {M : Type 1} → statement M
-gatulefo-i16x8-relaxed-dot-i8x16-i7x16-s-spec = tie.close (tie.spec nothing (λ c. c.i16x8-relaxed-dot-i8x16-i7x16-s.ensures))

@@ -1,8 +1,0 @@
--- `gatulefo::relaxed::gatulefo_i16x8_relaxed_laneselect` meets its contract, which is that of `i16x8_relaxed_laneselect`.
--- Made by link/exports. Assumes nothing.
-use Rattle.standard.proofs.Calls.{nothing}
-use Rattle.gatulefo.proofs.relaxed.gatulefo_i16x8_relaxed_laneselect.Statement.{statement}
-use Rattle.gatulefo.proofs.relaxed.gatulefo_i16x8_relaxed_laneselect.Tie as tie
-
-pub gatulefo-i16x8-relaxed-laneselect-spec : {M : Type 1} → statement M
-gatulefo-i16x8-relaxed-laneselect-spec = tie.close (tie.spec nothing (λ c. c.i16x8-relaxed-laneselect.ensures))

@@ -1,8 +1,0 @@
--- `gatulefo::shift::gatulefo_i8x16_shr_u` meets its contract, which is that of `i8x16_shr_u`.
--- Made by link/exports. Assumes nothing.
-use Rattle.standard.proofs.Calls.{nothing}
-use Rattle.gatulefo.proofs.shift.gatulefo_i8x16_shr_u.Statement.{statement}
-use Rattle.gatulefo.proofs.shift.gatulefo_i8x16_shr_u.Tie as tie
-
-pub gatulefo-i8x16-shr-u-spec : {M : Type 1} → statement M
-gatulefo-i8x16-shr-u-spec = tie.close (tie.spec nothing (λ c. c.i8x16-shr-u.ensures))

@@ -1,8 +1,0 @@
--- `gatulefo::widen::gatulefo_i32x4_extadd_pairwise_i16x8_u` meets its contract, which is that of `i32x4_extadd_pairwise_i16x8_u`.
--- Made by link/exports. Assumes nothing.
-use Rattle.standard.proofs.Calls.{nothing}
-use Rattle.gatulefo.proofs.widen.gatulefo_i32x4_extadd_pairwise_i16x8_u.Statement.{statement}
-use Rattle.gatulefo.proofs.widen.gatulefo_i32x4_extadd_pairwise_i16x8_u.Tie as tie
-
-pub gatulefo-i32x4-extadd-pairwise-i16x8-u-spec : {M : Type 1} → statement M
-gatulefo-i32x4-extadd-pairwise-i16x8-u-spec = tie.close (tie.spec nothing (λ c. c.i32x4-extadd-pairwise-i16x8-u.ensures))

@@ -1,8 +1,0 @@
--- `gatulefo::widen::gatulefo_v128_low32_zero` meets its contract, which is that of `v128_low32_zero`.
--- Made by link/exports. Assumes nothing.
-use Rattle.standard.proofs.Calls.{nothing}
-use Rattle.gatulefo.proofs.widen.gatulefo_v128_low32_zero.Statement.{statement}
-use Rattle.gatulefo.proofs.widen.gatulefo_v128_low32_zero.Tie as tie
-
-pub gatulefo-v128-low32-zero-spec : {M : Type 1} → statement M
-gatulefo-v128-low32-zero-spec = tie.close (tie.spec nothing (λ c. c.v128-low32-zero.ensures))

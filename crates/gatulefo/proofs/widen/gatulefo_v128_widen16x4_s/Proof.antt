@@ -1,8 +1,0 @@
--- `gatulefo::widen::gatulefo_v128_widen16x4_s` meets its contract, which is that of `v128_widen16x4_s`.
--- Made by link/exports. Assumes nothing.
-use Rattle.standard.proofs.Calls.{nothing}
-use Rattle.gatulefo.proofs.widen.gatulefo_v128_widen16x4_s.Statement.{statement}
-use Rattle.gatulefo.proofs.widen.gatulefo_v128_widen16x4_s.Tie as tie
-
-pub gatulefo-v128-widen16x4-s-spec : {M : Type 1} → statement M
-gatulefo-v128-widen16x4-s-spec = tie.close (tie.spec nothing (λ c. c.v128-widen16x4-s.ensures))
