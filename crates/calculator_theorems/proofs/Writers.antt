@@ -15,7 +15,7 @@ use borrow.Author.Tests.{leb-true, eqb-true, eqb-false, eq-eqb}
 use Rattle.standard.specs.Refusal.{Answer, given, refused}
 use Rattle.standard.specs.Instruction.{Instruction, none, memory, const, shuffled, vector₁, vector₂, vector₃, shifted, tested, splatted, extracted, replaced}
 use Rattle.standard.specs.Instruction.{instruction}
-use Rattle.calculator_rules.specs.Definition.{Machine, Ending, operation, destination, profile, refusal, effect, answer, step, after, counting, nothing_done}
+use Rattle.calculator_rules.specs.Definition.{Machine, Ending, operation, destination, profile, refusal, effect, step, after, counting, nothing_done}
 use Rattle.calculator_rules.specs.Definition.{stopped, steps, list_refusal, taken_up, run}
 use Rattle.calculator_rules.proofs.Judged.{one}
 use Rattle.calculator_rules.proofs.Pauses.{never_above}
