@@ -1,8 +1,5 @@
 -- How long the listing of a run is at most. Assumes nothing.
-use mathlib.Core.List.{List}
-use Prim.Native.Nat.{ℕ, ◌≤◌}
-use native.Mathlib.Omega.{arith}
-use lib.ListN.{length}
+use Rattle.std.proofs.Common.{ℕ, ◌≤◌, List, length, arith}
 use Rattle.calculator_rules.specs.Definition.{start, run}
 use Rattle.program_listing.specs.Listing.{refused_by, lanes_text}
 use Rattle.program_listing.proofs.Kept.{run_kept}
