@@ -60,7 +60,10 @@ put : (r place : ℕ) (s ws : List ℕ) → r < length ws → (v : Bool) (vs : L
     → vs ≡ cond v (set ws (destination s) (suc place)) ws → Numbered r place s ws vs
 put r place s ws h false vs p e = record { long = ap length e; here = ap (λ (l : List ℕ). get_or l r 0) e ∙ rw p }
 put r place s ws h true vs p e =
-    record { long = ap length e ∙ length-set ws (destination s) (suc place); here = ap (λ (l : List ℕ). get_or l r 0) e ∙ rw p (by (eqb (destination s) r) refl) }
+    record {
+      long = ap length e ∙ length-set ws (destination s) (suc place);
+      here = ap (λ (l : List ℕ). get_or l r 0) e ∙ rw p (by (eqb (destination s) r) refl);
+    }
   where
     by : (t : Bool) → eqb (destination s) r ≡ t → get_or (set ws (destination s) (suc place)) r 0 ≡ cond t (suc place) (get_or ws r 0)
     by true q = let d = eqb-true (destination s) r q in rw d (get_or-set_same ws r (suc place) 0 h)
