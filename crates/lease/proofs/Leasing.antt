@@ -1,13 +1,12 @@
 -- The calls of a lease, one after the other, and how long what they write is at most. Assumes nothing.
-use mathlib.Core.Path.{◌≡◌, refl, sym, ap, ◌∙◌}
+use mathlib.Core.Path.{◌≡◌, refl, ◌∙◌}
 use mathlib.Core.Bool.{Bool, true, false, cond}
-use mathlib.Core.List.{List, [], ◌∷◌, ◌++◌}
-use Prim.Native.Nat.{ℕ, zero, suc, ◌+◌, ◌-◌, ◌*◌, ◌/◌, ◌≤◌, ◌<◌}
+use mathlib.Core.List.{List, ◌++◌}
+use Prim.Native.Nat.{ℕ, zero, suc, ◌+◌, ◌-◌, ◌*◌, ◌/◌, ◌≤◌}
 use native.Mathlib.Omega.{arith}
 use lib.Dec.{eqb}
 use lib.ListN.{length, drop, length-append}
 use borrow.Author.Tests.{eq-eqb, ne_eqb, eqb-true}
-use Rattle.calculator_rules.specs.Definition as definition
 use Rattle.calculator_rules.specs.Definition.{Machine, Outcome, ended, paused, stopped, Ending, nothing_done, steps, list_refusal, taken_up, start, run}
 use Rattle.calculator_rules.proofs.Pauses.{fits}
 use Rattle.program_digits.specs.Codes.{codes}

@@ -3,7 +3,6 @@
 use Rattle.std.specs.Prelude.{ℕ, zero, suc, ◌+◌, cond, List, [], ◌++◌, eqb}
 use Rattle.calculator_rules.specs.Definition.{Machine, Outcome, ended, paused, stopped, Ending, start, run}
 use Rattle.program_digits.specs.Codes.{codes}
-use Rattle.program_digits.specs.Digits.{decimal}
 use Rattle.program_digits.specs.Lines.{named}
 use Rattle.program_listing.specs.Listing.{listing, refused_by}
 
