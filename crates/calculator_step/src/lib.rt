@@ -65,7 +65,7 @@ fn make(w: &[u64; 32], scalar: Scalar, shape: Shape, op: u16, mark: u8, s: &[u8]
     }
 }
 
-// "Extract, bitmask, any_true and all-true set [the scalar]"; every other step writes its vector to the destination. Whatever numbers stand beside the
+// "Extract, bitmask, any-true and all-true set [the scalar]"; every other step writes its vector to the destination. Whatever numbers stand beside the
 // registers.
 fn perform(w: &mut [u64; 32], scalar: Scalar, shape: Shape, op: u16, s: &[u8]) -> Stepped
     ensures passed { result.refused ≡ 0 }
