@@ -12,7 +12,7 @@ use lib.Seq.{take-append_seam}
 use Rattle.program_digits.specs.Codes.{codes}
 use Rattle.program_digits.proofs.Laws.{decimal_length}
 use Rattle.program_names.proofs.Table.{both_left, both_right}
-use Rattle.program_digits.specs.Put.{written, Wrote}
+use Rattle.program_digits.specs.Put.{Wrote}
 use Rattle.program_digits.proofs.Puts.{then, no_more, filled}
 use Rattle.program_words.specs.Cut.{newline, pieces}
 use Rattle.program_words.specs.Stops.{Scanned}
@@ -21,7 +21,7 @@ use Rattle.program_answer.specs.Output.{output_alone, said_alone}
 use Rattle.program_line.specs.Line.{Line, empty, step, refused, line}
 use Rattle.program_line.specs.Reads.{ReadAs}
 use Rattle.program_line.specs.declared.Read.{Read}
-use Rattle.program_assemble.specs.Text.{Assembled, after_them, wrong_line, next_line, of_lines, assembled, reasons, why, complaint, answered, told}
+use Rattle.program_assemble.specs.Text.{Assembled, after_them, wrong_line, next_line, of_lines, assembled, reasons, why, complaint, told}
 use Rattle.program_assemble.specs.Meaning.{added, room_after, fault, TakesLine, Assembles}
 use Rattle.program_assemble.specs.declared.Taken.{Taken}
 use Rattle.program_assemble.specs.declared.Assembly.{Assembly}

@@ -1,7 +1,7 @@
 -- A line with its number, and one line more. Assumes nothing.
 use mathlib.Core.Path.{◌≡◌, refl, sym, ap, ◌∙◌}
-use mathlib.Core.List.{List, [], ◌∷◌, ◌++◌, append_assoc, append-nil}
-use Prim.Native.Nat.{ℕ, zero, suc, ◌+◌, ◌-◌, ◌*◌, ◌/◌, ◌%◌, ◌<◌, ◌≤◌}
+use mathlib.Core.List.{List, ◌∷◌, ◌++◌, append_assoc, append-nil}
+use Prim.Native.Nat.{ℕ, zero, suc, ◌+◌, ◌-◌, ◌*◌, ◌/◌, ◌%◌, ◌≤◌}
 use native.Mathlib.Nat.{add-zero, add-suc, suc-add, not-suc-le-zero, le_of_suc-le-suc}
 use native.Mathlib.Omega.{arith}
 use borrow.Author.Tests.{eq-eqb, ne_eqb, leb-true}
@@ -18,7 +18,7 @@ use Rattle.program_digits.proofs.Puts.{then, said_as, filled}
 use Rattle.program_answer.specs.Output.{output_alone, said_alone}
 use Rattle.program_step.specs.Shown.{shown}
 use Rattle.program_step.proofs.Written.{shown_length}
-use Rattle.program_disassemble.specs.Written.{padded, numbered, lines, disassembled, list_refused, told}
+use Rattle.program_disassemble.specs.Written.{numbered, lines, disassembled, list_refused, told}
 
 -- some of so many equal characters
 take_same : (n m : ℕ) → n ≤ m → take {A = ℕ} n (replicate m 32) ≡ replicate n 32

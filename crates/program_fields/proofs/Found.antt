@@ -1,19 +1,17 @@
 -- The fields of a line, as the code finds them. Assumes nothing.
 use mathlib.Core.Path.{◌≡◌, refl}
-use mathlib.Core.Bool.{Bool, true, false, cond}
 use mathlib.Core.List.{List, [], ◌∷◌}
-use Prim.Native.Nat.{ℕ, zero, suc, ◌+◌, ◌-◌, ◌*◌, ◌<◌, ◌≤◌}
+use Prim.Native.Nat.{ℕ, suc, ◌+◌, ◌-◌, ◌*◌, ◌<◌, ◌≤◌}
 use native.Mathlib.Nat.{mul_comm}
 use native.Mathlib.Numerals.{add-one}
 use native.Mathlib.Omega.{arith}
 use borrow.Author.Tests.{lt-ltb, le-ltb, eq-eqb, ne_eqb}
-use lib.Dec.{eqb, ltb, leb}
 use lib.ListN.{length, get_or, take, drop, length-drop, drop_of_length-le}
 use lib.Seq.{drop-cons}
-use Rattle.program_arguments.specs.Arguments.{Numeral, number, none, digit, decimal}
+use Rattle.program_arguments.specs.Arguments.{digit, decimal}
 use Rattle.program_words.specs.Cut.{blank, before, onward}
 use Rattle.program_words.specs.Stops.{Scanned}
-use Rattle.program_fields.specs.Fields.{Field, register, lane, mark, byte, Found, found, nothing, between, number_in, as_register, as_byte, find}
+use Rattle.program_fields.specs.Fields.{Field, register, lane, mark, byte, found, nothing, between, number_in, as_register, as_byte, find}
 
 -- two hex digits
 short : (cs : List ℕ) → length cs < 2 → nothing ≡ as_byte cs

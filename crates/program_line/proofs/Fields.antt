@@ -1,6 +1,6 @@
 -- A field taken, as the code takes it. Assumes nothing.
 use mathlib.Core.Path.{◌≡◌, refl}
-use mathlib.Core.Bool.{Bool, true, false, cond}
+use mathlib.Core.Bool.{false, cond}
 use mathlib.Core.List.{List}
 use Prim.Native.Nat.{ℕ}
 use borrow.Author.Tests.{eq-eqb, ne_eqb}
@@ -8,7 +8,7 @@ use lib.Dec.{eqb}
 use lib.ListN.{drop, set}
 use Rattle.program_words.specs.Cut.{solid}
 use Rattle.program_words.specs.Stops.{Scanned}
-use Rattle.program_fields.specs.Fields.{Field, register, lane, mark, byte, Found, found, nothing, find}
+use Rattle.program_fields.specs.Fields.{Field, register, lane, mark, byte, found, nothing, find}
 use Rattle.program_line.specs.Line.{State, going, wrong, field_expected, take_field}
 
 expects : (f : Field) → eqb (field_expected f) 0 ≡ false

@@ -1,8 +1,8 @@
 -- The lines of the listing, one after the other, and how long they are at most. Assumes nothing.
-use mathlib.Core.Path.{◌≡◌, refl, sym, ap, ap₂, ◌∙◌}
+use mathlib.Core.Path.{◌≡◌, refl, sym, ap, ◌∙◌}
 use mathlib.Core.Bool.{Bool, true, false, cond, ◌&&◌}
-use mathlib.Core.List.{List, [], ◌∷◌, ◌++◌, append-nil, map}
-use Prim.Native.Nat.{ℕ, zero, suc, ◌+◌, ◌-◌, ◌*◌, ◌/◌, ◌%◌, ◌^◌, ◌≤◌, ◌<◌}
+use mathlib.Core.List.{List, [], ◌∷◌, ◌++◌, append-nil}
+use Prim.Native.Nat.{ℕ, suc, ◌+◌, ◌*◌, ◌/◌, ◌%◌, ◌^◌, ◌≤◌, ◌<◌}
 use native.Mathlib.Numerals.{add-one}
 use native.Mathlib.Omega.{arith}
 use lib.Dec.{eqb}
@@ -15,7 +15,7 @@ use Rattle.standard.proofs.Halves.{lanes_halves}
 use Rattle.standard.proofs.Digits as lanes
 use Rattle.calculator_rules.specs.Definition.{Machine}
 use Rattle.program_digits.specs.Codes.{codes}
-use Rattle.program_digits.specs.Digits.{decimal, hex, hex_bytes}
+use Rattle.program_digits.specs.Digits.{hex, hex_bytes}
 use Rattle.program_digits.proofs.Laws.{decimal_length, length_digits, length_hex_bytes, hex_bytes_append}
 use Rattle.program_listing.specs.Listing.{nonzero_line, register_line, register_lines, scalar_line, listing}
 

@@ -1,10 +1,10 @@
 -- The listing of a run (document 01, "The calculator (added)", with the numbers of document 02's order 1), as a list of ASCII codes.
-use Rattle.std.specs.Prelude.{ℕ, zero, suc, cond, List, [], ◌∷◌, ◌++◌, eqb}
+use Rattle.std.specs.Prelude.{ℕ, suc, cond, List, [], ◌∷◌, ◌++◌, eqb}
 use Rattle.standard.specs.Instruction.{Kind, i32, i64, f32, f64}
 use Rattle.standard.specs.Lanes.{lanes}
 use Rattle.calculator_rules.specs.Definition.{Machine, Outcome, ended, paused, stopped, Ending, start, run}
 use Rattle.program_digits.specs.Codes.{codes}
-use Rattle.program_digits.specs.Digits.{decimal, two_decimals, hex, hex_bytes}
+use Rattle.program_digits.specs.Digits.{two_decimals, hex, hex_bytes}
 use Rattle.program_digits.specs.Lines.{count_line}
 
 -- "one line for each register that is not all zero [..] (`r` and two decimal digits, a space, then 16 bytes in hex, byte 0 first)"; the number of the step

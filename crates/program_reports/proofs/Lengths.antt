@@ -8,7 +8,7 @@ use lib.Dec.{eqb}
 use lib.ListN.{length, length-append}
 use Rattle.finder_windows.specs.Definition as windows
 use Rattle.program_digits.specs.Codes.{codes}
-use Rattle.program_digits.specs.Digits.{decimal, hex_bytes}
+use Rattle.program_digits.specs.Digits.{hex_bytes}
 use Rattle.program_digits.proofs.Laws.{decimal_length, length_hex_bytes}
 use Rattle.program_reports.specs.Lines.{marker, fold}
 

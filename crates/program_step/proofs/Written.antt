@@ -1,8 +1,8 @@
 -- The parts of a line, as the code writes them, and how long they are. Assumes nothing.
-use mathlib.Core.Path.{◌≡◌, refl, sym, ap, ◌∙◌}
+use mathlib.Core.Path.{◌≡◌, sym, ap, ◌∙◌}
 use mathlib.Core.Bool.{Bool, true, false, cond}
 use mathlib.Core.List.{List, [], ◌∷◌, ◌++◌, append_assoc, append-nil}
-use Prim.Native.Nat.{ℕ, zero, suc, ◌+◌, ◌*◌, ◌%◌, ◌<◌, ◌≤◌}
+use Prim.Native.Nat.{ℕ, zero, suc, ◌+◌, ◌*◌, ◌%◌, ◌≤◌}
 use native.Mathlib.Nat.{add-zero, add-suc, suc-add}
 use native.Mathlib.Omega.{arith}
 use borrow.Author.Tests.{eq-eqb, ne_eqb}
@@ -20,8 +20,8 @@ use Rattle.program_names.proofs.Table.{name_length}
 use Rattle.program_fields.specs.Fields.{Field, register, lane, mark as a-mark, byte}
 use Rattle.program_forms.specs.Forms.{Form, form}
 use Rattle.program_forms.proofs.Fits.{Fitting, form_fits}
-use Rattle.program_line.specs.Line.{Line, empty, step, refused, line}
-use Rattle.program_line.specs.Reads.{ReadAs, line_of}
+use Rattle.program_line.specs.Line.{Line, line}
+use Rattle.program_line.specs.Reads.{ReadAs}
 use Rattle.program_line.specs.declared.Read.{Read}
 use Rattle.calculator_rules.specs.Definition.{operation}
 use Rattle.program_step.specs.Shown.{field, fields, mark, of_form, plain, whole, says, shown}

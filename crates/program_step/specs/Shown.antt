@@ -1,5 +1,5 @@
 -- The line that is written for a step.
-use Rattle.std.specs.Prelude.{ℕ, zero, suc, ◌%◌, Bool, true, false, cond, List, [], ◌∷◌, ◌++◌, eqb, get_or}
+use Rattle.std.specs.Prelude.{ℕ, zero, suc, ◌%◌, Bool, false, cond, List, [], ◌++◌, eqb, get_or}
 use Rattle.calculator_rules.specs.Definition.{operation}
 use Rattle.program_digits.specs.Codes.{codes}
 use Rattle.program_digits.specs.Digits.{decimal, hex}

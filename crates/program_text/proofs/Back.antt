@@ -6,7 +6,7 @@ use Prim.Native.Nat.{ℕ, zero, suc, ◌+◌, ◌-◌, ◌*◌, ◌/◌, ◌%◌
 use native.Mathlib.Nat.{mod-lt, not-suc-le-zero, le_of_suc-le-suc}
 use native.Mathlib.Omega.{arith}
 use borrow.Author.Tests.{lt-ltb, le-leb, eqb-true, eqb-false, leb-true, not-true, not-false}
-use lib.Dec.{eqb, ltb, leb}
+use lib.Dec.{eqb, leb}
 use lib.ListN.{length, get_or, take, drop, set, replicate, length-drop, take-append-drop}
 use lib.Seq.{take_all, take-suc, set_at, length-take-le, get_or-drop}
 use Rattle.program_arguments.specs.Arguments.{digit}
@@ -14,14 +14,14 @@ use Rattle.calculator_rules.specs.Definition.{operation, unless, list_refusal}
 use Rattle.program_digits.specs.Codes.{codes}
 use Rattle.program_digits.specs.Digits.{glyph, digits, places, decimal, hex}
 use Rattle.program_answer.specs.Output.{output_alone}
-use Rattle.program_words.specs.Cut.{newline, blank, solid, before, onward, comment, statement, pieces, skip, same}
+use Rattle.program_words.specs.Cut.{newline, blank, solid, before, onward, comment, statement, pieces, skip}
 use Rattle.program_words.proofs.Free.{free, passes, free_append, free_piece}
-use Rattle.program_words.proofs.Pieces.{same_true, is_false}
+use Rattle.program_words.proofs.Pieces.{same_true}
 use Rattle.program_names.specs.Names.{name}
 use Rattle.program_names.proofs.Table.{odd, name_free, both_left, both_right}
 use Rattle.program_fields.specs.Fields.{Field, register, lane, mark as a-mark, byte, found, find}
 use Rattle.program_forms.specs.Forms.{Form, form}
-use Rattle.program_line.specs.Line.{Line, empty, step, refused, State, going, wrong, take_field, take_fields, blank_step, end_line, stated, line}
+use Rattle.program_line.specs.Line.{Line, empty, step, refused, going, take_field, take_fields, blank_step, end_line, stated, line}
 use Rattle.program_step.specs.Shown.{field, fields, mark, of_form, plain, whole, says, shown}
 use Rattle.program_assemble.specs.Text.{fine, of_lines, assembled}
 use Rattle.program_assemble.specs.Text as assemble

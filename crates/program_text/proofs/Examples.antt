@@ -1,18 +1,18 @@
 -- Worked examples, computed from the definitions. Assumes nothing.
 use mathlib.Core.Path.{◌≡◌, refl}
-use mathlib.Core.List.{List, [], ◌∷◌, ◌++◌}
+use mathlib.Core.List.{List, ◌∷◌}
 use Prim.Native.Nat.{ℕ}
 use lib.ListN.{replicate}
 use Rattle.standard.specs.Instruction.{table, instruction}
 use Rattle.program_digits.specs.Codes.{codes}
-use Rattle.program_digits.specs.Digits.{digits, places, decimal, hex}
+use Rattle.program_digits.specs.Digits.{digits, places, decimal}
 use Rattle.program_words.specs.Cut.{before, onward, statement, pieces}
 use Rattle.program_table.specs.Place.{place}
 use Rattle.program_names.specs.Names.{names, name, number}
 use Rattle.program_fields.specs.Fields.{find}
 use Rattle.program_forms.specs.Forms.{form}
 use Rattle.program_line.specs.Line.{step, refused, take_field, take_fields, take_form, take_packed, named, stated, line}
-use Rattle.program_step.specs.Shown.{field, fields, mark, of_form, plain, whole, shown}
+use Rattle.program_step.specs.Shown.{field, fields, mark, of_form, plain, shown}
 use Rattle.program_assemble.specs.Text.{wrong_line, of_lines, assembled}
 
 -- v128.xor r3 r1 r2, number 81

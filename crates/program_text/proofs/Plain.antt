@@ -1,12 +1,12 @@
 -- Plain lines: a step whose number has a name, whose registers are legal and whose ignored bytes are 0 is written as its plain line. Assumes nothing.
 use mathlib.Core.Path.{◌≡◌, refl, sym, ap, ◌∙◌}
-use mathlib.Core.Bool.{Bool, true, false, cond, ◌&&◌, ◌||◌, false≢true}
+use mathlib.Core.Bool.{Bool, true, false, cond, ◌&&◌, false≢true}
 use mathlib.Core.List.{List, [], ◌∷◌, ◌++◌, append_assoc, append-nil}
-use Prim.Native.Nat.{ℕ, zero, suc, ◌+◌, ◌%◌, ◌<◌, ◌≤◌}
+use Prim.Native.Nat.{ℕ, zero, suc, ◌+◌, ◌<◌, ◌≤◌}
 use native.Mathlib.Nat.{add-zero, add-suc, suc-add, not-suc-le-zero}
 use native.Mathlib.Omega.{arith}
-use borrow.Author.Tests.{lt-ltb, le-leb, eq-eqb, eqb-true, eqb-false, ne_eqb}
-use lib.Dec.{eqb, ltb, leb}
+use borrow.Author.Tests.{lt-ltb, le-leb, eq-eqb, eqb-true, eqb-false}
+use lib.Dec.{eqb}
 use lib.ListN.{length, get_or, set}
 use Rattle.program_arguments.specs.Arguments.{Numeral, number, none}
 use Rattle.program_arguments.specs.Arguments as arguments
@@ -18,12 +18,12 @@ use Rattle.program_words.proofs.Free.{free, passes}
 use Rattle.program_words.proofs.Pieces.{same_refl}
 use Rattle.program_names.specs.Names.{name}
 use Rattle.program_names.specs.Names as names
-use Rattle.program_names.proofs.Table.{name_free, number_of_name, name_not_step, name_below, both_left, both_right}
-use Rattle.program_fields.specs.Fields.{Field, register, lane, mark as a-mark, byte, found, find}
+use Rattle.program_names.proofs.Table.{name_free, number_of_name, name_not_step, name_below}
+use Rattle.program_fields.specs.Fields.{Field, register, lane, mark as a-mark, byte, find}
 use Rattle.program_forms.specs.Forms.{Form, form}
-use Rattle.program_line.specs.Line.{Line, step, State, going, apart, take_field, take_fields, take_form, take_mark, take_packed, end_line, of_operation}
+use Rattle.program_line.specs.Line.{step, going, apart, take_field, take_fields, take_form, take_mark, take_packed, end_line, of_operation}
 use Rattle.program_line.specs.Line.{blank_step, named, stated, line}
-use Rattle.program_step.specs.Shown.{field, fields, mark, of_form, plain, whole, says, shown}
+use Rattle.program_step.specs.Shown.{field, fields, mark, of_form, plain, shown}
 use Rattle.program_text.specs.Used.{copied, marked, fields_of, used}
 use Rattle.program_text.proofs.Back.{below, at, parts, free_less, free_decimal, free_plain, statement_all, byte_taken, ended, tick, Bytes}
 

@@ -1,20 +1,18 @@
 -- A line is read by its words: how many blanks stand between them, and which, says nothing. Assumes nothing.
 use mathlib.Core.Path.{◌≡◌, refl, sym, ap, ◌∙◌}
 use mathlib.Core.Logic.{◌⊎◌, inl, inr}
-use mathlib.Core.Bool.{Bool, true, false, not, cond, ◌&&◌, ◌||◌}
-use mathlib.Core.List.{List, [], ◌∷◌, ◌++◌}
-use Prim.Native.Nat.{ℕ, zero, suc, ◌+◌, ◌*◌, ◌≤◌}
-use native.Mathlib.Omega.{arith}
-use borrow.Author.Tests.{eqb-true, eqb-false}
+use mathlib.Core.Bool.{Bool, true, false, cond, ◌&&◌, ◌||◌}
+use mathlib.Core.List.{List, [], ◌∷◌}
+use Prim.Native.Nat.{ℕ, zero, suc, ◌+◌, ◌*◌}
+use borrow.Author.Tests.{eqb-true}
 use lib.Dec.{eqb, ltb, leb}
-use lib.ListN.{set}
 use Rattle.program_arguments.specs.Arguments.{Numeral, number, none, digit, decimal}
 use Rattle.program_digits.specs.Codes.{codes}
-use Rattle.program_words.specs.Cut.{blank, solid, before, onward, skip, word, after, statement, same}
+use Rattle.program_words.specs.Cut.{blank, before, onward, skip, word, after, statement, same}
 use Rattle.program_names.specs.Names as names
 use Rattle.program_fields.specs.Fields.{Field, register, lane, mark, byte, Found, found, nothing, between, as_register, as_byte, find}
 use Rattle.program_forms.specs.Forms.{Form, form}
-use Rattle.program_line.specs.Line.{Line, empty, step, refused, State, going, wrong, field_expected, store, take_field, take_fields, take_form, apart}
+use Rattle.program_line.specs.Line.{Line, refused, State, going, wrong, field_expected, store, take_field, take_fields, take_form, apart}
 use Rattle.program_line.specs.Line.{take_mark, take_packed, nothing_more, end_line, of_operation, blank_step, named, stated, line}
 use Rattle.program_text.specs.Words.{spaced, tidy}
 

@@ -3,7 +3,6 @@ use borrow.Author.Rules.{rules}
 use Prim.Native.Nat.{suc, ◌+◌, ◌-◌}
 use native.Mathlib.Omega.{arith}
 use mathlib.Core.Path.{◌≡◌}
-use Rattle.standard.specs.Lanes
 use Rattle.program_digits.proofs.Puts.{then, no_more, said_as}
 use Rattle.program_listing.proofs.Lines.{one_byte, no_bytes}
 use Rattle.program_listing.proofs.put_half.Goals as goal

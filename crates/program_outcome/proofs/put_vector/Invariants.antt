@@ -9,7 +9,8 @@ use Rattle.program_outcome.proofs.put_vector.Given as goal
 
 abbrev pub invariant-loop-i : goal.invariant-loop-i
 invariant-loop-i l =
-    (l.i ≤ 16) × (length l.out ≡ length l.initial.out) × Completes l.initial.out l.at (hex_bytes (bytes l.r 32 16)) l.out l.next (hex_bytes (bytes l.r (32 + l.i) (16 - l.i)))
+    (l.i ≤ 16) × (length l.out ≡ length l.initial.out)
+    × Completes l.initial.out l.at (hex_bytes (bytes l.r 32 16)) l.out l.next (hex_bytes (bytes l.r (32 + l.i) (16 - l.i)))
 
 abbrev pub decreases-loop-i : goal.decreases-loop-i
 decreases-loop-i l = 16 - l.i

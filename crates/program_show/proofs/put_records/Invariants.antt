@@ -10,7 +10,8 @@ use Rattle.program_show.proofs.put_records.Given as goal
 
 abbrev pub invariant-loop-at : goal.invariant-loop-at
 invariant-loop-at l =
-    (l.at ≤ l.n) × (length l.out ≡ length l.initial.out) × Completes l.initial.out 0 (show_from l.n 0 l.file start) l.out l.next (show_from (l.n - l.at) l.at l.file (held l.w l.writers l.scalar))
+    (l.at ≤ l.n) × (length l.out ≡ length l.initial.out)
+    × Completes l.initial.out 0 (show_from l.n 0 l.file start) l.out l.next (show_from (l.n - l.at) l.at l.file (held l.w l.writers l.scalar))
 
 abbrev pub decreases-loop-at : goal.decreases-loop-at
 decreases-loop-at l = l.n - l.at
