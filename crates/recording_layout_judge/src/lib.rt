@@ -110,6 +110,7 @@ fn count_records(file: &[u8]) -> usize
     7 * last + b[2] as usize
 }
 
+#[tactic(auto, unfolding(recording_layout::specs::Definition::refusal))]
 pub fn judge(file: &[u8]) -> Judged
     ensures { judged_of result ≡ judged file.now }
 {

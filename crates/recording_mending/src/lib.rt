@@ -91,6 +91,7 @@ fn mend_blocks(file: &[u8], out: &mut [u8]) -> Mending
 }
 
 // The blocks of a recording, mended where one bit mends them, at the start of the output.
+#[tactic(auto, unfolding(recording_mending_rules::specs::Definition::mending))]
 pub fn mend(file: &[u8], out: &mut [u8]) -> Mending
     ensures { (mending_of result, out.new) ≡ mending file.now out.old }
 {

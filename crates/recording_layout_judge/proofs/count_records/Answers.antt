@@ -3,7 +3,7 @@ use native.Mathlib.Omega.{arith}
 use Rattle.recording_layout_judge.proofs.count_records.Goals as goal
 
 pub overflow_cast-result : goal.overflow_cast-result
-overflow_cast-result c = omega (arith, c.shared_slice_known-1.given 2)
+overflow_cast-result c = omega (arith, c.type_inv.file 2)
 
 pub overflow_add-result : goal.overflow_add-result
-overflow_add-result c = omega (arith, c.shared_slice_known-1.given 2)
+overflow_add-result c = omega (arith, c.type_inv.file 2)

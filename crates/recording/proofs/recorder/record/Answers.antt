@@ -36,7 +36,8 @@ returns c =
     let n = c.record_steps-n.result in
     let left = c.record_steps-n.new.out in
     ap (λ (b : ℕ). (wrote (512 * b), c.seal.new.out)) (let same : (n + 6) / 7 ≡ blocks_for (64 * n) = omega arith in same)
-    ∙ when_sealed a.list.now a.out.now (sym c.judge-refused.ensures ∙ c.if-refused-ne0.false) c.if-list-eq0.false n left (sym c.has_room_for.ensures ∙ c.if-not-has_room_for.false) c.record_steps-n.auto.out
+    ∙ when_sealed a.list.now a.out.now (sym c.judge-refused.ensures ∙ c.if-refused-ne0.false) c.if-list-eq0.false n left
+    (sym c.has_room_for.ensures ∙ c.if-not-has_room_for.false) c.record_steps-n.auto.out
     c.record_steps-n.ensures.counted.1
     c.record_steps-n.ensures.written c.record_steps-n.ensures.beyond c.seal.ensures
 

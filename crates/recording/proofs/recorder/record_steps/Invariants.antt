@@ -10,7 +10,8 @@ use Rattle.recording.proofs.recorder.record_steps.Given as goal
 
 abbrev pub invariant-loop-at : goal.invariant-loop-at
 invariant-loop-at l =
-    (l.n ≡ length l.list / 32) × (l.at ≤ l.n) × (length l.list ≤ 8192) × (512 * blocks_for (length (records_of l.list)) ≤ length l.out) × (length l.out ≡ length l.initial.out)
+    (l.n ≡ length l.list / 32) × (l.at ≤ l.n) × (length l.list ≤ 8192) × (512 * blocks_for (length (records_of l.list)) ≤ length l.out)
+    × (length l.out ≡ length l.initial.out)
     × (64 * l.at + length (records_from (l.n - l.at) l.at (drop (32 * l.at) l.list) (held l.w l.writers l.scalar)) ≡ length (records_of l.list))
     × (standing l.at l.out ++ records_from (l.n - l.at) l.at (drop (32 * l.at) l.list) (held l.w l.writers l.scalar) ≡ records_of l.list)
     × (drop (512 * blocks_for (64 * l.at)) l.out ≡ drop (512 * blocks_for (64 * l.at)) l.initial.out)
