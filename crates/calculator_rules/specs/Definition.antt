@@ -131,7 +131,7 @@ put place m s v =
 abbrev pub hold : Machine → Kind → ℕ → Machine
 hold m k b = record { registers = m.registers; writers = m.writers; kind = k; bits = b }
 
--- What a step at a place that is not refused leaves. "Sources are read before the destination is written". "Extract, bitmask, any_true and all-true set
+-- What a step at a place that is not refused leaves. "Sources are read before the destination is written". "Extract, bitmask, any-true and all-true set
 -- [the scalar] (the last three as i32); splat and replace read it." The count of a shift is the scalar "read as unsigned 32 bits" (order 2), which the bits
 -- of an i32 are.
 unfoldable pub effect : Instruction → ℕ → Machine → List ℕ → Machine

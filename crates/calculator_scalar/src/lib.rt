@@ -22,7 +22,7 @@ pub enum Scalar {
 }
 
 impl Scalar {
-    // The i32 with these bits: "Extract, bitmask, any_true and all-true set it (the last three as i32)".
+    // The i32 with these bits: "Extract, bitmask, any-true and all-true set it (the last three as i32)".
     pub fn of_bits(x: u32) -> Scalar
         ensures { scalar_of result ≡ (i32, x) }
     {

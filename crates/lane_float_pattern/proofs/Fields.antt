@@ -125,8 +125,7 @@ pub by_sign : (f : Format) (b : ℕ) → of_bits f b ≡ cond (leb (top f) b) (n
 unfolding of_bits
 by_sign f b = rw (cleared f b) (go (leb (top f) b))
   where
-    go : (s : Bool) → of_fields f s (field f b) (b % hid f)
-        ≡ cond s (neg (of_fields f false (field f b) (b % hid f))) (of_fields f false (field f b) (b % hid f))
+    go : (s : Bool) → of_fields f s (field f b) (b % hid f) ≡ cond s (neg (of_fields f false (field f b) (b % hid f))) (of_fields f false (field f b) (b % hid f))
     go true = negated f (field f b) (b % hid f)
     go false = refl
 

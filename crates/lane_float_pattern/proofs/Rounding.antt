@@ -215,8 +215,7 @@ kept_ge p n den P K =
     all_in_use z p P h = omega arith
 
 pub round_bits : (f : Format) (s : Bool) (num den : ℕ)
-    → to_bits f (round f s num den)
-    ≡ cond s (top f) 0 + min (drop (prec f) (num * 2 ^ low f) den * hid f + kept (prec f) (num * 2 ^ low f) den) (ones f * hid f)
+    → to_bits f (round f s num den) ≡ cond s (top f) 0 + min (drop (prec f) (num * 2 ^ low f) den * hid f + kept (prec f) (num * 2 ^ low f) den) (ones f * hid f)
 round_bits f s num den =
     let n = num * 2 ^ low f in
     ap (to_bits f) (round_is f s num den)

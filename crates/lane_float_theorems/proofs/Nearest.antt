@@ -9,20 +9,20 @@ use mathlib.Core.Bool.{Bool, true, false, cond, ◌&&◌}
 use mathlib.Core.Logic.{◌⊎◌, inl, inr}
 use Prim.Native.Nat.{ℕ, zero, suc, ◌+◌, ◌-◌, ◌*◌, ◌/◌, ◌%◌, ◌^◌, ◌≤◌, ◌<◌, compare}
 use native.Mathlib.Nat.{mul_comm, mul_assoc, mul_right_comm, mul-one, one-mul, zero-mul, mul-pos, mul-le-mul_right, mul-lt-mul_of_pos_right, mul-div_cancel}
-use native.Mathlib.Nat.{div-div-eq-div-mul, eq_of_mul-eq-mul_right, lt_of_mul-lt-mul_right, le_trans, le_of_eq, lt_of_le_of_lt, zero-lt-suc}
+use native.Mathlib.Nat.{div-div-eq-div-mul, eq_of_mul-eq-mul_right, lt_of_mul-lt-mul_right, le_trans, le_of_eq, lt_of_le_of_lt, lt_of_lt_of_le, zero-lt-suc}
 use native.Mathlib.Omega.{arith}
 use borrow.Author.Tests.{leb-true, leb-false, ltb-true, ltb-false}
 use lib.IntN.{ℤ, pos, negsuc}
-use lib.Dec.{T, leb, ltb, eqb, ltb→lt, leb→le, lit<}
-use lib.Pow.{pow-add, pow_pos, pow-lt}
-use lib.Ieee.{Float, nan, inf, fin, Format, binary32, binary64, prec, emax, low, hid, top, up, down, size, units, round, fits, of_bits, to_bits}
+use lib.Dec.{T, leb, ltb, eqb, ltb→lt, leb→le, lit<, lit≤}
+use lib.Pow.{pow-add, pow_pos, pow_mono, pow-lt}
+use lib.Ieee.{Float, nan, inf, fin, Format, binary32, binary64, prec, emax, low, hid, ones, top, up, down, size, units, round, fits, of_bits, to_bits}
 use lib.Ieee.Digits.{size_reaches, size-le}
 use lib.Ieee.Fits.{two, two-le_pos, and_l, and_r, down_pos, nearest-le, kept-lt, round_is}
 use lib.Ieee.Bits.{of_bits-fits}
 use lib.Ieee.Exact.{HasValue, units_val}
 use lib.Ieee.Order.{drop, kept}
 use lib.Ieee.Scale.{grid, overflow}
-use Rattle.lane_float_theorems.proofs.Whole.{apart, Digits, Near, kept_near}
+use Rattle.lane_float_theorems.proofs.Whole.{apart, Digits, rounded, Near, kept_near}
 
 -- The magnitude w of a finite number that a pattern of the format stands for, or the limit.
 pub data Candidate (f : Format) : ℕ → Type 0 where

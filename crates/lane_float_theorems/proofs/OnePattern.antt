@@ -14,6 +14,7 @@ use lib.Ieee.{Float, nan, inf, fin, Format, binary32, binary64, prec, low, hid, 
 use lib.Ieee.Digits.{size-le}
 use lib.Ieee.Fits.{down_pos, up_pos}
 use lib.Ieee.Bits.{of_bits-fits, to_bits-of_bits}
+use lib.Ieee.Exact.{HasValue}
 use Rattle.lane_float_theorems.proofs.Nearest.{fine, pattern_of}
 
 -- both are zeros

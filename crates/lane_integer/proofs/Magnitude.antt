@@ -102,11 +102,9 @@ module _ (v : Width) (t : T (leb (hbits v) 15)) {a b : ℕ} (f : Fits v a) (g : 
   product_exact = exact w32 ◌*ℤ◌ (kept w32 hr er) (kept w32 hs es) (product_fits _ _ fits_a fits_b)
 
   pub rounded_exact : SFits w32 (to_z w32 (of_z w32 (to_z w32 (of_z w32 r) *ℤ to_z w32 (of_z w32 s))) +ℤ pos 16384)
-      × (to_z w32 (of_z w32 (to_z w32 (of_z w32 (to_z w32 (of_z w32 r) *ℤ to_z w32 (of_z w32 s))) +ℤ pos 16384))
-          ≡ signed (bits v) a *ℤ signed (bits v) b +ℤ pos 16384)
+      × (to_z w32 (of_z w32 (to_z w32 (of_z w32 (to_z w32 (of_z w32 r) *ℤ to_z w32 (of_z w32 s))) +ℤ pos 16384)) ≡ signed (bits v) a *ℤ signed (bits v) b +ℤ pos 16384)
   rounded_exact = exact w32 ◌+ℤ◌ product_exact.1 refl (rounded_fits _ _ fits_a fits_b)
 
-  pub rounded_shift :
-      to_z w32 (of_z w32 (shr_z (to_z w32 (of_z w32 (to_z w32 (of_z w32 (to_z w32 (of_z w32 r) *ℤ to_z w32 (of_z w32 s))) +ℤ pos 16384))) (2 ^ 15)))
+  pub rounded_shift : to_z w32 (of_z w32 (shr_z (to_z w32 (of_z w32 (to_z w32 (of_z w32 (to_z w32 (of_z w32 r) *ℤ to_z w32 (of_z w32 s))) +ℤ pos 16384))) (2 ^ 15)))
       ≡ floor (signed (bits v) a *ℤ signed (bits v) b +ℤ pos 16384) 15
   rounded_shift = shift_kept w32 15 (rounded_fits _ _ fits_a fits_b) rounded_exact.1

@@ -68,8 +68,7 @@ least : (f : Format) (a b : ℕ) → fmin f a b ≡ value 0 (chosen fmin f a b)
 least f a b = either (nan_bits f a || nan_bits f b) (eqb (fabs f a) 0 && eqb (fabs f b) 0) (to_bits f nan) (fneg f (to_bits f nan)) a b (cond (under f a b) a b)
 
 greatest : (f : Format) (a b : ℕ) → fmax f a b ≡ value 0 (chosen fmax f a b)
-greatest f a b =
-    either (nan_bits f a || nan_bits f b) (eqb (fabs f a) 0 && eqb (fabs f b) 0) (to_bits f nan) (fneg f (to_bits f nan)) a b (cond (under f a b) b a)
+greatest f a b = either (nan_bits f a || nan_bits f b) (eqb (fabs f a) 0 && eqb (fabs f b) 0) (to_bits f nan) (fneg f (to_bits f nan)) a b (cond (under f a b) b a)
 
 -- Lanes of vectors.
 
