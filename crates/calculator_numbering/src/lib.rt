@@ -39,8 +39,8 @@ pub fn number(writers: &mut [u16; 16], shape: Shape, refused: u8, place: u8, s: 
     }
 }
 
-// A run from a place on, with the number of its refusal, 0 for none: "A run resets all of them to 0 as it starts" (document 02, order 1); "taking up above place 0
-// does not reset them" (order 12); a refused list changes none.
+// A run from a place on, with the number of its refusal, 0 for none: "A run resets all of them to 0 as it starts" (document 02, order 1); "taking up above place
+// 0 does not reset them" (order 12); a refused list changes none.
 pub fn take_up(writers: &mut [u16; 16], refused: u8, place: usize)
     ensures { writers.new ≡ cond (eqb refused 0) (cond (eqb place 0) (replicate 16 0) writers.old) writers.old }
 {

@@ -1,5 +1,5 @@
-// What `replay`, `record` and `mend` write beside files: all lines of an answer at the start of a lent buffer, and how many bytes they are. The line of a replay
-// can be put from any place on.
+// What `replay`, `record` and `mend` write beside files: all lines of an answer at the start of a lent buffer, and how many bytes they are. The line of a
+// replay can be put from any place on.
 #![tactic(auto)]
 
 ghost use Rattle.std.specs.Prelude.{◌≡◌};

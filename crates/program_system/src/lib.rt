@@ -28,8 +28,8 @@ pub fn argument(env: &impl Env, place: usize, buffer: &mut [u8]) -> usize
 // What a shell says of a program that a closed pipe has ended.
 const NOBODY_READS: &[u8] = b"141";
 
-// Writes a line to standard error: what failed, and why in the system's words. Where whoever reads has gone, that is no fault of the program: it says nothing, and
-// its status is that of a program that a closed pipe has ended.
+// Writes a line to standard error: what failed, and why in the system's words. Where whoever reads has gone, that is no fault of the program: it says nothing,
+// and its status is that of a program that a closed pipe has ended.
 pub fn complain(rt: &(impl Files + Eprint + Alloc), what: &str, error: io::Error) {
     if error.kind() == ErrorKind::BrokenPipe {
         let _ = put_status(rt, NOBODY_READS);

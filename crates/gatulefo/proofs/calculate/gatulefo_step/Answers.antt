@@ -18,7 +18,8 @@ use Rattle.gatulefo.proofs.calculate.gatulefo_step.Goals as goal
 left : (q : ℕ) (w v n m : List ℕ) (s t : Scalar) (d : Answer Machine) → cond (eqb q 0) (given (held v m t)) (refused q) ≡ d
     → ((q ≡ 0 → ⊥) → (v ≡ w) × (m ≡ n) × (t ≡ s)) → machine_numbers (held v m t) q ≡ left_by_step (held w n s) d
 left zero w v n m s t d e kept = rw (← e) refl
-left (suc q) w v n m s t d e kept = rw (← e, ne_eqb (suc q) 0 (suc-ne-zero q), (kept (suc-ne-zero q)).0, (kept (suc-ne-zero q)).1, (kept (suc-ne-zero q)).2) refl
+left (suc q) w v n m s t d e kept =
+    rw (← e, ne_eqb (suc q) 0 (suc-ne-zero q), (kept (suc-ne-zero q)).0, (kept (suc-ne-zero q)).1, (kept (suc-ne-zero q)).2) refl
 
 pub returns : goal.returns
 returns c =
