@@ -1463,8 +1463,7 @@ gatulefo_stored gatulefo_v128_store64_lane(uint8_t *memory, size_t memory_length
 gatulefo_stored gatulefo_v128_store64_lane_at(uint8_t *memory, size_t memory_length, size_t address, gatulefo_v128 value, uint8_t lane);
 
 /* i8x16 add, exclusive-or and popcnt over a lent row of vectors, written over the first row (document 02, order 6), in the form that the order names: a row is
- * a slice of vectors. What comes back of two rows is the number of the refusal, 12 where they differ in length, or 0; nothing is written where there is one.
- * The texts are those of the crate `row_vectors`, since its laws are of a text (row_vectors/proofs/TwoRows.antt, OneRow.antt). */
+ * a slice of vectors. What comes back of two rows is the number of the refusal, 12 where they differ in length, or 0; nothing is written where there is one. */
 
 /* Of a whole row, in place. The sums of sixteen 8-bit lanes, modulo 2^8.
  * Combined (binary 8 (iadd 8)) first.old second.now result first.new */
