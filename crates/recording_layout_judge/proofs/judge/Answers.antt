@@ -1,10 +1,5 @@
 -- `recording_layout_judge::judge` meets its contract: what its callees require. Assumes nothing.
-use mathlib.Core.Path.{◌≡◌, sym, ap, ◌∙◌}
-use mathlib.Core.Bool.{true, false}
-use mathlib.Core.List.{List}
-use Prim.Native.Nat.{ℕ}
-use lib.ListN.{length}
-use Rattle.recording_layout.specs.Definition.{recording, refused, each_below, whole_blocks, blocks, right_block, laid_block, refusal, records, judged}
+use mathlib.Core.Path.{sym, ◌∙◌}
 use Rattle.recording_layout.proofs.Files.{whole}
 use Rattle.recording_layout_judge.proofs.judge.Goals as goal
 
