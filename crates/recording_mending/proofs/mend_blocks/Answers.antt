@@ -24,9 +24,6 @@ pub loop-k-init : goal.loop-k-init
 unfolding blocks_from bits_from
 loop-k-init c = (refl, omega arith, search rules, search rules, refl, rw sub-zero (zero-add _), refl, refl)
 
-pub shape_of-out-then-bit-gt-NONE : goal.shape_of-out-then-bit-gt-NONE
-shape_of-out-then-bit-gt-NONE c = c.loop-k.invariant.4
-
 pub returns-then-bit-gt-NONE : goal.returns-then-bit-gt-NONE
 returns-then-bit-gt-NONE c =
     let l = c.loop-k in
