@@ -1,26 +1,42 @@
-// One of two numbers, by a test. As a call it leaves no jump where a loop over lanes is compiled.
+// One of two lanes, by a test. As a call it leaves no jump where a loop over lanes is compiled.
 ghost use Rattle.std.specs.Prelude.{◌≡◌, if◌then◌else◌};
+ghost use Rattle.standard.specs.Integer.{truth, imin_s, imin_u, imax_s, imax_u};
 
-pub fn pick8(t: bool, a: u8, b: u8) -> u8
+use crate::Lane;
+
+pub fn pick<T: Copy>(t: bool, a: T, b: T) -> T
     ensures { result ≡ (if t then a else b) }
 {
     if t { a } else { b }
 }
 
-pub fn pick16(t: bool, a: u16, b: u16) -> u16
-    ensures { result ≡ (if t then a else b) }
+/// The lane of a comparison: all ones or all zeros.
+pub fn truth<L: Lane>(t: bool) -> L
+    ensures { L.number result ≡ truth L.width t }
 {
-    if t { a } else { b }
+    pick(t, L::ones(), L::zero())
 }
 
-pub fn pick32(t: bool, a: u32, b: u32) -> u32
-    ensures { result ≡ (if t then a else b) }
+pub fn min_s<L: Lane>(a: L, b: L) -> L
+    ensures { L.number result ≡ imin_s L.width (L.number a) (L.number b) }
 {
-    if t { a } else { b }
+    pick(a.lt_s(b), a, b)
 }
 
-pub fn pick64(t: bool, a: u64, b: u64) -> u64
-    ensures { result ≡ (if t then a else b) }
+pub fn min_u<L: Lane>(a: L, b: L) -> L
+    ensures { L.number result ≡ imin_u L.width (L.number a) (L.number b) }
 {
-    if t { a } else { b }
+    pick(a.lt_u(b), a, b)
+}
+
+pub fn max_s<L: Lane>(a: L, b: L) -> L
+    ensures { L.number result ≡ imax_s L.width (L.number a) (L.number b) }
+{
+    pick(b.lt_s(a), a, b)
+}
+
+pub fn max_u<L: Lane>(a: L, b: L) -> L
+    ensures { L.number result ≡ imax_u L.width (L.number a) (L.number b) }
+{
+    pick(b.lt_u(a), a, b)
 }

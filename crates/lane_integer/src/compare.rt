@@ -1,78 +1,74 @@
-// The order of two lanes by their signed readings, and a lane's sign bit.
-ghost use Rattle.std.specs.Prelude.{◌≡◌, if◌then◌else◌, int_le, int_lt};
+// Two lanes compared: all ones where the comparison holds, else all zeros; and a lane's sign.
+ghost use Rattle.std.specs.Prelude.{◌≡◌, not};
 ghost use Rattle.std.specs.Int.Signed.{non_neg};
-ghost use Rattle.standard.specs.Integer.{signed};
+ghost use Rattle.standard.specs.Integer.{signed, ieq, ine, ilt_u, igt_u, ile_u, ige_u, ilt_s, igt_s, ile_s, ige_s};
 
-use crate::reinterpret::{signed8, signed16, signed32, signed64};
+use crate::Lane;
+use crate::choose::truth;
 
-pub fn lt_s8(a: u8, b: u8) -> bool
-    ensures { result ≡ int_lt (signed 8 a) (signed 8 b) }
+pub fn eq<L: Lane>(a: L, b: L) -> L
+    ensures { L.number result ≡ ieq L.width (L.number a) (L.number b) }
 {
-    signed8(a) < signed8(b)
+    truth(a.eq(b))
 }
 
-pub fn le_s8(a: u8, b: u8) -> bool
-    ensures { result ≡ int_le (signed 8 a) (signed 8 b) }
+pub fn ne<L: Lane>(a: L, b: L) -> L
+    ensures { L.number result ≡ ine L.width (L.number a) (L.number b) }
 {
-    signed8(a) <= signed8(b)
+    truth(!a.eq(b))
 }
 
-pub fn lt_s16(a: u16, b: u16) -> bool
-    ensures { result ≡ int_lt (signed 16 a) (signed 16 b) }
+pub fn lt_u<L: Lane>(a: L, b: L) -> L
+    ensures { L.number result ≡ ilt_u L.width (L.number a) (L.number b) }
 {
-    signed16(a) < signed16(b)
+    truth(a.lt_u(b))
 }
 
-pub fn le_s16(a: u16, b: u16) -> bool
-    ensures { result ≡ int_le (signed 16 a) (signed 16 b) }
+pub fn gt_u<L: Lane>(a: L, b: L) -> L
+    ensures { L.number result ≡ igt_u L.width (L.number a) (L.number b) }
 {
-    signed16(a) <= signed16(b)
+    truth(b.lt_u(a))
 }
 
-pub fn lt_s32(a: u32, b: u32) -> bool
-    ensures { result ≡ int_lt (signed 32 a) (signed 32 b) }
+pub fn le_u<L: Lane>(a: L, b: L) -> L
+    ensures { L.number result ≡ ile_u L.width (L.number a) (L.number b) }
 {
-    signed32(a) < signed32(b)
+    truth(!b.lt_u(a))
 }
 
-pub fn le_s32(a: u32, b: u32) -> bool
-    ensures { result ≡ int_le (signed 32 a) (signed 32 b) }
+pub fn ge_u<L: Lane>(a: L, b: L) -> L
+    ensures { L.number result ≡ ige_u L.width (L.number a) (L.number b) }
 {
-    signed32(a) <= signed32(b)
+    truth(!a.lt_u(b))
 }
 
-pub fn lt_s64(a: u64, b: u64) -> bool
-    ensures { result ≡ int_lt (signed 64 a) (signed 64 b) }
+pub fn lt_s<L: Lane>(a: L, b: L) -> L
+    ensures { L.number result ≡ ilt_s L.width (L.number a) (L.number b) }
 {
-    signed64(a) < signed64(b)
+    truth(a.lt_s(b))
 }
 
-pub fn le_s64(a: u64, b: u64) -> bool
-    ensures { result ≡ int_le (signed 64 a) (signed 64 b) }
+pub fn gt_s<L: Lane>(a: L, b: L) -> L
+    ensures { L.number result ≡ igt_s L.width (L.number a) (L.number b) }
 {
-    signed64(a) <= signed64(b)
+    truth(b.lt_s(a))
 }
 
-pub fn sign8(x: u8) -> u8
-    ensures { result ≡ (if non_neg (signed 8 x) then 0 else 1) }
+pub fn le_s<L: Lane>(a: L, b: L) -> L
+    ensures { L.number result ≡ ile_s L.width (L.number a) (L.number b) }
 {
-    if signed8(x) < 0 { 1 } else { 0 }
+    truth(!b.lt_s(a))
 }
 
-pub fn sign16(x: u16) -> u8
-    ensures { result ≡ (if non_neg (signed 16 x) then 0 else 1) }
+pub fn ge_s<L: Lane>(a: L, b: L) -> L
+    ensures { L.number result ≡ ige_s L.width (L.number a) (L.number b) }
 {
-    if signed16(x) < 0 { 1 } else { 0 }
+    truth(!a.lt_s(b))
 }
 
-pub fn sign32(x: u32) -> u8
-    ensures { result ≡ (if non_neg (signed 32 x) then 0 else 1) }
+/// Whether the sign bit is set.
+pub fn is_negative<L: Lane>(x: L) -> bool
+    ensures { result ≡ not (non_neg (signed L.width (L.number x))) }
 {
-    if signed32(x) < 0 { 1 } else { 0 }
-}
-
-pub fn sign64(x: u64) -> u8
-    ensures { result ≡ (if non_neg (signed 64 x) then 0 else 1) }
-{
-    if signed64(x) < 0 { 1 } else { 0 }
+    x.lt_s(L::zero())
 }

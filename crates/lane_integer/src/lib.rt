@@ -1,8 +1,9 @@
-// One lane: scalar functions on numbers of 8, 16, 32 and 64 bits. Each is proved equal to the standard's operation of its name.
+// One lane: numbers of 8, 16, 32 and 64 bits. Each function is proved equal to the standard's operation of its name, at every width at once.
 #![tactic(auto)]
 
 pub mod arithmetic;
 pub mod choose;
 pub mod compare;
-pub mod reinterpret;
-pub mod shift;
+mod lane;
+
+pub use lane::Lane;

@@ -1,121 +1,93 @@
-// Exact results held to a range: sat_u and sat_s of the standard, and the operations that end in them.
+// Lanes of 8 and 16 bits by way of a wider number: exact results held to a range, sat_u and sat_s of the standard, and the operations that end in them.
 #![tactic(auto)]
 
 ghost use Rattle.std.specs.Prelude.{◌≡◌};
-ghost use Rattle.standard.specs.Integer.{signed, sat_u, sat_s, iadd_sat_u, iadd_sat_s, isub_sat_u, isub_sat_s, iq15mulrsat_s};
+ghost use Rattle.standard.specs.Integer.{signed, iadd_sat_u, iadd_sat_s, isub_sat_u, isub_sat_s, iavgr_u, iq15mulrsat_s};
 
-use lane_integer::reinterpret::{signed8, signed16, unsigned8, unsigned16};
+use lane_integer::Lane;
 
-// The signed reading of a lane, with room for a sum.
-pub fn wide8(x: u8) -> i32
-    ensures { result ≡ signed 8 x }
-{
-    signed8(x) as i32
+/// A lane whose sums, differences and products have room in 32 bits.
+pub trait Narrow: Lane {
+    /// The signed reading of a lane, with room for a sum.
+    fn wide(self) -> i32
+        ensures { result ≡ signed Self.width (Self.number self) };
+
+    fn add_sat_s(self, other: Self) -> Self
+        ensures { Self.number result ≡ iadd_sat_s Self.width (Self.number self) (Self.number other) };
+
+    fn add_sat_u(self, other: Self) -> Self
+        ensures { Self.number result ≡ iadd_sat_u Self.width (Self.number self) (Self.number other) };
+
+    fn sub_sat_s(self, other: Self) -> Self
+        ensures { Self.number result ≡ isub_sat_s Self.width (Self.number self) (Self.number other) };
+
+    fn sub_sat_u(self, other: Self) -> Self
+        ensures { Self.number result ≡ isub_sat_u Self.width (Self.number self) (Self.number other) };
+
+    fn avgr_u(self, other: Self) -> Self
+        ensures { Self.number result ≡ iavgr_u Self.width (Self.number self) (Self.number other) };
 }
 
-pub fn sat_u8(z: i16) -> u8
-    ensures { result ≡ sat_u 8 z }
-{
-    let y: i16 = if z < 0 { 0 } else { z };
-    let x: i16 = if 255 < y { 255 } else { y };
-    x as u8
-}
+impl Narrow for u8 {
+    fn wide(self) -> i32 {
+        i32::from(u8::signed(self))
+    }
 
-pub fn sat_s8(z: i32) -> u8
-    ensures { result ≡ sat_s 8 z }
-{
-    if z < -128 {
-        unsigned8(-128)
-    } else if 127 < z {
-        unsigned8(127)
-    } else {
-        unsigned8(z as i8)
+    fn add_sat_s(self, other: u8) -> u8 {
+        u8::of_signed(self.signed().saturating_add(other.signed()))
+    }
+
+    fn add_sat_u(self, other: u8) -> u8 {
+        self.saturating_add(other)
+    }
+
+    fn sub_sat_s(self, other: u8) -> u8 {
+        u8::of_signed(self.signed().saturating_sub(other.signed()))
+    }
+
+    fn sub_sat_u(self, other: u8) -> u8 {
+        self.saturating_sub(other)
+    }
+
+    fn avgr_u(self, other: u8) -> u8 {
+        ((u32::from(self) + u32::from(other) + 1) / 2) as u8
     }
 }
 
-pub fn add_sat_u8(a: u8, b: u8) -> u8
-    ensures { result ≡ iadd_sat_u 8 a b }
-{
-    if a <= u8::MAX - b { a + b } else { u8::MAX }
-}
-
-pub fn add_sat_s8(a: u8, b: u8) -> u8
-    ensures { result ≡ iadd_sat_s 8 a b }
-{
-    sat_s8(wide8(a) + wide8(b))
-}
-
-pub fn sub_sat_u8(a: u8, b: u8) -> u8
-    ensures { result ≡ isub_sat_u 8 a b }
-{
-    if b <= a { a - b } else { 0 }
-}
-
-pub fn sub_sat_s8(a: u8, b: u8) -> u8
-    ensures { result ≡ isub_sat_s 8 a b }
-{
-    sat_s8(wide8(a) - wide8(b))
-}
-
-// The signed reading of a lane, with room for a sum.
-pub fn wide16(x: u16) -> i32
-    ensures { result ≡ signed 16 x }
-{
-    signed16(x) as i32
-}
-
-pub fn sat_u16(z: i32) -> u16
-    ensures { result ≡ sat_u 16 z }
-{
-    let y: i32 = if z < 0 { 0 } else { z };
-    let x: i32 = if 65535 < y { 65535 } else { y };
-    x as u16
-}
-
-pub fn sat_s16(z: i32) -> u16
-    ensures { result ≡ sat_s 16 z }
-{
-    if z < -32768 {
-        unsigned16(-32768)
-    } else if 32767 < z {
-        unsigned16(32767)
-    } else {
-        unsigned16(z as i16)
+impl Narrow for u16 {
+    fn wide(self) -> i32 {
+        i32::from(u16::signed(self))
     }
-}
 
-pub fn add_sat_u16(a: u16, b: u16) -> u16
-    ensures { result ≡ iadd_sat_u 16 a b }
-{
-    if a <= u16::MAX - b { a + b } else { u16::MAX }
-}
+    fn add_sat_s(self, other: u16) -> u16 {
+        u16::of_signed(self.signed().saturating_add(other.signed()))
+    }
 
-pub fn add_sat_s16(a: u16, b: u16) -> u16
-    ensures { result ≡ iadd_sat_s 16 a b }
-{
-    sat_s16(wide16(a) + wide16(b))
-}
+    fn add_sat_u(self, other: u16) -> u16 {
+        self.saturating_add(other)
+    }
 
-pub fn sub_sat_u16(a: u16, b: u16) -> u16
-    ensures { result ≡ isub_sat_u 16 a b }
-{
-    if b <= a { a - b } else { 0 }
-}
+    fn sub_sat_s(self, other: u16) -> u16 {
+        u16::of_signed(self.signed().saturating_sub(other.signed()))
+    }
 
-pub fn sub_sat_s16(a: u16, b: u16) -> u16
-    ensures { result ≡ isub_sat_s 16 a b }
-{
-    sat_s16(wide16(a) - wide16(b))
+    fn sub_sat_u(self, other: u16) -> u16 {
+        self.saturating_sub(other)
+    }
+
+    fn avgr_u(self, other: u16) -> u16 {
+        ((u32::from(self) + u32::from(other) + 1) / 2) as u16
+    }
 }
 
 // The rounded quotient is never below the range (document 02, order 3): the upper end alone is held.
-pub fn q15mulr_sat_s16(a: u16, b: u16) -> u16
+pub fn q15mulr_sat_s(a: u16, b: u16) -> u16
     ensures { result ≡ iq15mulrsat_s 16 a b }
 {
-    let rounded = (wide16(a) * wide16(b) + 16384) >> 15;
+    let rounded = (a.wide() * b.wide() + 16384) >> 15;
     if 32767 < rounded {
-        unsigned16(i16::MAX)
+        u16::of_signed(i16::MAX)
     } else {
-        unsigned16(rounded as i16)
+        u16::of_signed(rounded as i16)
     }
 }

@@ -1,16 +1,7 @@
--- What functions over lanes of two widths promise: signed or unsigned by a flag, the low or the high half of the lanes by another, and sums over the two
--- halves of a lane.
+-- What functions over lanes of two widths promise: the low or the high half of the lanes by a flag, and sums over the two halves of a lane.
 use Rattle.std.specs.Prelude.{ℕ, ◌*◌, ◌/◌, ◌%◌, ◌^◌, Bool, true, false, List}
 use Rattle.standard.specs.Lanes.{low_half, high_half}
-use Rattle.standard.specs.Integer.{iadd, imul, extend_u, extend_s, narrow_u, narrow_s}
-
-abbrev pub extends : Bool → ℕ → ℕ → ℕ → ℕ
-extends true = extend_s
-extends false = extend_u
-
-abbrev pub narrows : Bool → ℕ → ℕ → ℕ → ℕ
-narrows true = narrow_s
-narrows false = narrow_u
+use Rattle.standard.specs.Integer.{iadd, imul, extend_s}
 
 abbrev pub half_of : Bool → List ℕ → List ℕ
 half_of true = high_half

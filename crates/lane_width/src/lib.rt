@@ -1,147 +1,146 @@
 // Lanes of one width from those of half or twice the width: extending, narrowing, and the sums over the two halves of a lane.
 #![tactic(auto)]
 
-ghost use Rattle.std.specs.Prelude.{◌≡◌, ℕ, ◌+◌, ◌*◌, ◌/◌, ◌^◌};
+ghost use Rattle.std.specs.Prelude.{◌≡◌, refl, ℕ, ◌+◌, ◌*◌, ◌/◌, ◌%◌, ◌^◌};
 ghost use Rattle.standard.specs.Lanes.{digits, lanes};
-ghost use Rattle.standard.specs.Integer.{iadd, extend_u, extend_s, narrow_u, narrow_s};
-ghost use Rattle.lane_width.specs.Widen.{extends, narrows, half_of, pair_sum, pair_product};
+ghost use Rattle.standard.specs.Integer.{extend_u, extend_s, narrow_u, narrow_s};
+ghost use Rattle.lane_width.specs.Widen.{half_of, pair_sum, pair_product};
 
-use lane_integer::arithmetic::{mul16, mul32};
-use lane_integer::reinterpret::{signed8, signed16, signed32, unsigned16, unsigned32, unsigned64};
-use lane_wide::{sat_s8, sat_s16, sat_u8, sat_u16, wide16};
+use lane_integer::Lane;
 
-pub fn extend_s8(x: u8) -> u16
-    ensures { result ≡ extend_s 8 16 x }
-{
-    unsigned16(signed8(x) as i16)
+/// A lane as two lanes of half its width.
+pub trait Double: Lane {
+    type Half: Lane;
+
+    fn low(self) -> Self::Half
+        ensures { Self.Half.number result ≡ Self.number self % 2 ^ Self.Half.width };
+
+    fn high(self) -> Self::Half
+        ensures { Self.Half.number result ≡ Self.number self / 2 ^ Self.Half.width };
+
+    fn extend_s(half: Self::Half) -> Self
+        ensures { Self.number result ≡ extend_s Self.Half.width Self.width (Self.Half.number half) };
+
+    fn extend_u(half: Self::Half) -> Self
+        ensures { Self.number result ≡ extend_u Self.Half.width Self.width (Self.Half.number half) };
+
+    ghost doubled: { Self.width ≡ 2 * Self.Half.width };
 }
 
-pub fn extend_s16(x: u16) -> u32
-    ensures { result ≡ extend_s 16 32 x }
-{
-    unsigned32(signed16(x) as i32)
+impl Double for u16 {
+    type Half = u8;
+
+    fn low(self) -> u8 {
+        (self % 256) as u8
+    }
+
+    fn high(self) -> u8 {
+        (self / 256) as u8
+    }
+
+    fn extend_s(half: u8) -> u16 {
+        u16::of_signed(i16::from(half.signed()))
+    }
+
+    fn extend_u(half: u8) -> u16 {
+        u16::from(half)
+    }
+
+    ghost doubled = { refl };
 }
 
-pub fn extend_s32(x: u32) -> u64
-    ensures { result ≡ extend_s 32 64 x }
-{
-    unsigned64(signed32(x) as i64)
+impl Double for u32 {
+    type Half = u16;
+
+    fn low(self) -> u16 {
+        (self % 65536) as u16
+    }
+
+    fn high(self) -> u16 {
+        (self / 65536) as u16
+    }
+
+    fn extend_s(half: u16) -> u32 {
+        u32::of_signed(i32::from(half.signed()))
+    }
+
+    fn extend_u(half: u16) -> u32 {
+        u32::from(half)
+    }
+
+    ghost doubled = { refl };
 }
 
-pub fn extadd_s16(x: u16) -> u16
-    ensures { result ≡ pair_sum extend_s 8 x }
-{
-    std::num::wrapping_add_u16(extend_s8((x % 256) as u8), extend_s8((x / 256) as u8))
+impl Double for u64 {
+    type Half = u32;
+
+    fn low(self) -> u32 {
+        (self % 4294967296) as u32
+    }
+
+    fn high(self) -> u32 {
+        (self / 4294967296) as u32
+    }
+
+    fn extend_s(half: u32) -> u64 {
+        u64::of_signed(i64::from(half.signed()))
+    }
+
+    fn extend_u(half: u32) -> u64 {
+        u64::from(half)
+    }
+
+    ghost doubled = { refl };
 }
 
-pub fn extadd_u16(x: u16) -> u16
-    ensures { result ≡ pair_sum extend_u 8 x }
-{
-    x % 256 + x / 256
+/// A lane that is narrowed to half its width, by its signed reading held to the range.
+pub trait Narrows: Double {
+    fn narrow_s(self) -> Self::Half
+        ensures { Self.Half.number result ≡ narrow_s Self.width Self.Half.width (Self.number self) };
+
+    fn narrow_u(self) -> Self::Half
+        ensures { Self.Half.number result ≡ narrow_u Self.width Self.Half.width (Self.number self) };
 }
 
-pub fn extadd_s32(x: u32) -> u32
-    ensures { result ≡ pair_sum extend_s 16 x }
-{
-    std::num::wrapping_add_u32(
-        extend_s16((x % 65536) as u16),
-        extend_s16((x / 65536) as u16),
-    )
+impl Narrows for u16 {
+    fn narrow_s(self) -> u8 {
+        u8::of_signed(self.signed().clamp(-128, 127) as i8)
+    }
+
+    fn narrow_u(self) -> u8 {
+        u16::signed(self).clamp(0, 255) as u8
+    }
 }
 
-pub fn extadd_u32(x: u32) -> u32
-    ensures { result ≡ pair_sum extend_u 16 x }
-{
-    x % 65536 + x / 65536
+impl Narrows for u32 {
+    fn narrow_s(self) -> u16 {
+        u16::of_signed(self.signed().clamp(-32768, 32767) as i16)
+    }
+
+    fn narrow_u(self) -> u16 {
+        u32::signed(self).clamp(0, 65535) as u16
+    }
 }
 
-pub fn dot32(a: u32, b: u32) -> u32
-    ensures { result ≡ pair_product 16 a b }
+pub fn extadd_s<D: Double>(x: D) -> D
+    ensures { D.number result ≡ pair_sum extend_s D.Half.width (D.number x) }
 {
-    let low = mul32(
-        extend_s16((a % 65536) as u16),
-        extend_s16((b % 65536) as u16),
-    );
-    let high = mul32(
-        extend_s16((a / 65536) as u16),
-        extend_s16((b / 65536) as u16),
-    );
-    std::num::wrapping_add_u32(low, high)
+    D::extend_s(x.low()).add(D::extend_s(x.high()))
 }
 
-// The same of two bytes, for the relaxed dots: both read as signed, added modulo 2^16.
-pub fn dot16(a: u16, b: u16) -> u16
-    ensures { result ≡ pair_product 8 a b }
+pub fn extadd_u<D: Double>(x: D) -> D
+    ensures { D.number result ≡ pair_sum extend_u D.Half.width (D.number x) }
 {
-    let low = mul16(
-        extend8(true, (a % 256) as u8),
-        extend8(true, (b % 256) as u8),
-    );
-    let high = mul16(
-        extend8(true, (a / 256) as u8),
-        extend8(true, (b / 256) as u8),
-    );
-    sum16(low, high)
+    D::extend_u(x.low()).add(D::extend_u(x.high()))
 }
 
-fn sum16(a: u16, b: u16) -> u16
-    ensures { result ≡ iadd 16 a b }
+/// The products of the halves as signed numbers, added modulo 2^width: dot, and of bytes what the relaxed dots are made of.
+pub fn dot<D: Double>(a: D, b: D) -> D
+    ensures { D.number result ≡ pair_product D.Half.width (D.number a) (D.number b) }
 {
-    std::num::wrapping_add_u16(a, b)
-}
-
-pub fn narrow_s16(x: u16) -> u8
-    ensures { result ≡ narrow_s 16 8 x }
-{
-    sat_s8(wide16(x))
-}
-
-pub fn narrow_u16(x: u16) -> u8
-    ensures { result ≡ narrow_u 16 8 x }
-{
-    sat_u8(signed16(x))
-}
-
-pub fn narrow_s32(x: u32) -> u16
-    ensures { result ≡ narrow_s 32 16 x }
-{
-    sat_s16(signed32(x))
-}
-
-pub fn narrow_u32(x: u32) -> u16
-    ensures { result ≡ narrow_u 32 16 x }
-{
-    sat_u16(signed32(x))
-}
-
-pub fn extend8(signed: bool, x: u8) -> u16
-    ensures { result ≡ extends signed 8 16 x }
-{
-    if signed { extend_s8(x) } else { x as u16 }
-}
-
-pub fn extend16(signed: bool, x: u16) -> u32
-    ensures { result ≡ extends signed 16 32 x }
-{
-    if signed { extend_s16(x) } else { x as u32 }
-}
-
-pub fn extend32(signed: bool, x: u32) -> u64
-    ensures { result ≡ extends signed 32 64 x }
-{
-    if signed { extend_s32(x) } else { x as u64 }
-}
-
-pub fn narrow16(signed: bool, x: u16) -> u8
-    ensures { result ≡ narrows signed 16 8 x }
-{
-    if signed { narrow_s16(x) } else { narrow_u16(x) }
-}
-
-pub fn narrow32(signed: bool, x: u32) -> u16
-    ensures { result ≡ narrows signed 32 16 x }
-{
-    if signed { narrow_s32(x) } else { narrow_u32(x) }
+    let low = D::extend_s(a.low()).mul(D::extend_s(b.low()));
+    let high = D::extend_s(a.high()).mul(D::extend_s(b.high()));
+    low.add(high)
 }
 
 // The half of a vector that is asked for: at every width its lanes are the low or the high half of the vector's lanes.
