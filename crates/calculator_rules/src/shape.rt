@@ -3,31 +3,26 @@ ghost use Rattle.std.specs.Prelude.{◌≡◌};
 ghost use Rattle.standard.specs.Instruction.{kind_number};
 ghost use Rattle.calculator_rules.specs.Shape.{the_kind};
 
-// The kinds of the scalar.
-#[derive(Clone, Copy)]
+// The kinds of the scalar, each with the number that a recording has.
+#[derive(Clone, Copy, PartialEq, Eq, Debug)]
 pub enum Kind {
-    I32,
-    I64,
-    F32,
-    F64,
+    I32 = 0,
+    I64 = 1,
+    F32 = 2,
+    F64 = 3,
 }
 
 impl Kind {
-    // By which two kinds are told apart, and which a recording has.
+    // Which a recording has.
     pub fn number(self) -> u8
         ensures { result ≡ kind_number (the_kind self) }
     {
-        match self {
-            Kind::I32 => 0,
-            Kind::I64 => 1,
-            Kind::F32 => 2,
-            Kind::F64 => 3,
-        }
+        self as u8
     }
 }
 
 // What an operation takes and gives, with the lane count and the kind of the scalar that it reads.
-#[derive(Clone, Copy)]
+#[derive(Clone, Copy, PartialEq, Eq, Debug)]
 pub enum Shape {
     // no calculator step
     None,
