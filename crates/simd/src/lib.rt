@@ -1,5 +1,5 @@
-// WebAssembly's 128-bit vectors: `V128` and the operations on vectors of wasmi_core's simd.rs, under their names, in files by family. Here: the vector, its
-// lanes as arrays and back, and the loops over lanes.
+// WebAssembly's 128-bit vectors: `V128` and the operations on vectors of wasmi_core's simd.rs, under their names, in files by family. Here: the vector, and its
+// lanes as arrays and back.
 #![tactic(auto)]
 
 pub mod arithmetic;
@@ -8,6 +8,7 @@ pub mod compare;
 pub mod convert;
 pub mod extract;
 pub mod float;
+mod lanes;
 pub mod rearrange;
 pub mod reduce;
 pub mod relaxed;
@@ -16,17 +17,11 @@ pub mod shift;
 pub mod splat;
 pub mod widen;
 
-ghost use Rattle.std.specs.Prelude.{◌≡◌, ◌++◌, ◌∷◌, [], ◌<◌, take, replicate};
-ghost use Rattle.std.specs.Float.{binary32, binary64};
-ghost use Rattle.standard.specs.Lanes.{digits, joined, lanes, unary, binary, splat, extract, replace};
-ghost use Rattle.standard.specs.Refusal.{at_lane};
-ghost use Rattle.lane_float_arithmetic.specs.Choose.{arithmetic_of};
-ghost use Rattle.array_lanewise.specs.Lanewise.{unaries, unaries8, unaries16, unaries32, binaries, binaries16, binaries32, unary_of, binary_of};
-ghost use Rattle.array_lanewise_float.specs.LanewiseFloat.{float_unary_of, float_binary_of};
+ghost use Rattle.std.specs.Prelude.{◌≡◌, ◌++◌, ◌∷◌, []};
+ghost use Rattle.standard.specs.Lanes.{digits, joined, lanes};
 ghost use Rattle.simd.specs.Number.{number};
-ghost use Rattle.simd.specs.Answers.{vector_answer};
 
-use standard_refusal::{Refusal, lane_below};
+pub use lanes::Lanes;
 
 // The 128 bits of a vector, low half first: byte 0 is the low byte of `lo`. Its layout is C's, so that another language can hand one over.
 #[repr(C)]
@@ -159,51 +154,6 @@ impl V128 {
         }
     }
 
-    // A loop over lanes runs over 64 places: the lanes, then idle places whose results are dropped. A loop over the 16, 8 or 4 lanes alone is unrolled
-    // before the compiler's vectoriser sees it, and is left as some ten shifts and masks a lane; one over 64 is vectorised, and its idle turns vanish
-    // (docs/DECISIONS.md, "Idle places"). Here: the lanes with the idle places after them, and a vector of the lanes before them.
-    fn places8(self) -> [u8; 64]
-        ensures { result ≡ lanes 8 (number self) ++ replicate 48 0 }
-    {
-        let s = self.lanes8();
-        let mut r = [0; 64];
-        for i in 0..16 {
-            r[i] = s[i];
-        }
-        r
-    }
-
-    fn from_places8(s: [u8; 64]) -> V128
-        ensures { number result ≡ joined 8 (take 16 s) }
-    {
-        let mut r = [0; 16];
-        for i in 0..16 {
-            r[i] = s[i];
-        }
-        V128::join8(r)
-    }
-
-    fn unary8(self, op: u8, count: u32) -> V128
-        ensures { number result ≡ unary 8 (unary_of (unaries8 count) op) (number self) }
-    {
-        let mut a = self.places8();
-        for i in 0..64 {
-            a[i] = array_lanewise::unary8(op, count, a[i]);
-        }
-        V128::from_places8(a)
-    }
-
-    fn binary8(self, rhs: V128, op: u8) -> V128
-        ensures { number result ≡ binary 8 (binary_of (take 22 (binaries 8)) op) (number self) (number rhs) }
-    {
-        let mut a = self.places8();
-        let b = rhs.places8();
-        for i in 0..64 {
-            a[i] = array_lanewise::binary8(op, a[i], b[i]);
-        }
-        V128::from_places8(a)
-    }
-
     fn lanes16(self) -> [u16; 8]
         ensures { result ≡ lanes 16 (number self) }
     {
@@ -219,48 +169,6 @@ impl V128 {
         }
     }
 
-    fn places16(self) -> [u16; 64]
-        ensures { result ≡ lanes 16 (number self) ++ replicate 56 0 }
-    {
-        let s = self.lanes16();
-        let mut r = [0; 64];
-        for i in 0..8 {
-            r[i] = s[i];
-        }
-        r
-    }
-
-    fn from_places16(s: [u16; 64]) -> V128
-        ensures { number result ≡ joined 16 (take 8 s) }
-    {
-        let mut r = [0; 8];
-        for i in 0..8 {
-            r[i] = s[i];
-        }
-        V128::join16(r)
-    }
-
-    fn unary16(self, op: u8, count: u32) -> V128
-        ensures { number result ≡ unary 16 (unary_of (unaries16 count) op) (number self) }
-    {
-        let mut a = self.places16();
-        for i in 0..64 {
-            a[i] = array_lanewise::unary16(op, count, a[i]);
-        }
-        V128::from_places16(a)
-    }
-
-    fn binary16(self, rhs: V128, op: u8) -> V128
-        ensures { number result ≡ binary 16 (binary_of binaries16 op) (number self) (number rhs) }
-    {
-        let mut a = self.places16();
-        let b = rhs.places16();
-        for i in 0..64 {
-            a[i] = array_lanewise::binary16(op, a[i], b[i]);
-        }
-        V128::from_places16(a)
-    }
-
     fn lanes32(self) -> [u32; 4]
         ensures { result ≡ lanes 32 (number self) }
     {
@@ -274,236 +182,5 @@ impl V128 {
             lo: half32(a[0], a[1]),
             hi: half32(a[2], a[3]),
         }
-    }
-
-    fn places32(self) -> [u32; 64]
-        ensures { result ≡ lanes 32 (number self) ++ replicate 60 0 }
-    {
-        let s = self.lanes32();
-        let mut r = [0; 64];
-        for i in 0..4 {
-            r[i] = s[i];
-        }
-        r
-    }
-
-    fn from_places32(s: [u32; 64]) -> V128
-        ensures { number result ≡ joined 32 (take 4 s) }
-    {
-        let mut r = [0; 4];
-        for i in 0..4 {
-            r[i] = s[i];
-        }
-        V128::join32(r)
-    }
-
-    fn unary32(self, op: u8, count: u32) -> V128
-        ensures { number result ≡ unary 32 (unary_of (unaries32 count) op) (number self) }
-    {
-        let mut a = self.places32();
-        for i in 0..64 {
-            a[i] = array_lanewise::unary32(op, count, a[i]);
-        }
-        V128::from_places32(a)
-    }
-
-    fn binary32(self, rhs: V128, op: u8) -> V128
-        ensures { number result ≡ binary 32 (binary_of binaries32 op) (number self) (number rhs) }
-    {
-        let mut a = self.places32();
-        let b = rhs.places32();
-        for i in 0..64 {
-            a[i] = array_lanewise::binary32(op, a[i], b[i]);
-        }
-        V128::from_places32(a)
-    }
-
-    fn float_unary32(self, op: u8) -> V128
-        ensures { number result ≡ unary 32 (float_unary_of binary32 op) (number self) }
-    {
-        let mut a = self.places32();
-        for i in 0..64 {
-            a[i] = array_lanewise_float::float_unary32(op, a[i]);
-        }
-        V128::from_places32(a)
-    }
-
-    fn float_binary32(self, rhs: V128, op: u8) -> V128
-        ensures { number result ≡ binary 32 (float_binary_of binary32 op) (number self) (number rhs) }
-    {
-        let mut a = self.places32();
-        let b = rhs.places32();
-        for i in 0..64 {
-            a[i] = array_lanewise_float::float_binary32(op, a[i], b[i]);
-        }
-        V128::from_places32(a)
-    }
-
-    // Over 32 places: 64 are too many to be unrolled.
-    fn arithmetic32(self, rhs: V128, op: u8) -> V128
-        ensures { number result ≡ binary 32 (arithmetic_of binary32 op) (number self) (number rhs) }
-    {
-        let mut a = self.places32();
-        let b = rhs.places32();
-        for i in 0..32 {
-            a[i] = lane_float_arithmetic::choose::arithmetic32(op, a[i], b[i]);
-        }
-        V128::from_places32(a)
-    }
-
-    // Lanes as unsigned numbers: every lane one number, the lane at a number (0 where there is none), and a vector with one lane changed.
-    pub fn splat8(x: u8) -> V128
-        ensures { number result ≡ splat 8 x }
-    {
-        V128::join8([x; 16])
-    }
-
-    pub fn lane8(self, lane: u8) -> u8
-        ensures { result ≡ extract 8 (number self) lane }
-    {
-        if lane < 16 {
-            let i = lane as usize;
-            let a = self.lanes8();
-            a[i]
-        } else {
-            0
-        }
-    }
-
-    pub fn replace8(self, lane: u8, x: u8) -> Result<V128, Refusal>
-        ensures { vector_answer result ≡ at_lane 8 lane (replace 8 (number self) lane x) }
-    {
-        lane_below(lane, 16)?;
-        let i = lane as usize;
-        let mut a = self.lanes8();
-        a[i] = x;
-        Ok(V128::join8(a))
-    }
-
-    pub fn splat16(x: u16) -> V128
-        ensures { number result ≡ splat 16 x }
-    {
-        V128::join16([x; 8])
-    }
-
-    pub fn lane16(self, lane: u8) -> u16
-        ensures { result ≡ extract 16 (number self) lane }
-    {
-        if lane < 8 {
-            let i = lane as usize;
-            let a = self.lanes16();
-            a[i]
-        } else {
-            0
-        }
-    }
-
-    pub fn replace16(self, lane: u8, x: u16) -> Result<V128, Refusal>
-        ensures { vector_answer result ≡ at_lane 16 lane (replace 16 (number self) lane x) }
-    {
-        lane_below(lane, 8)?;
-        let i = lane as usize;
-        let mut a = self.lanes16();
-        a[i] = x;
-        Ok(V128::join16(a))
-    }
-
-    pub fn splat32(x: u32) -> V128
-        ensures { number result ≡ splat 32 x }
-    {
-        V128::join32([x; 4])
-    }
-
-    pub fn lane32(self, lane: u8) -> u32
-        ensures { result ≡ extract 32 (number self) lane }
-    {
-        if lane < 4 {
-            let i = lane as usize;
-            let a = self.lanes32();
-            a[i]
-        } else {
-            0
-        }
-    }
-
-    pub fn replace32(self, lane: u8, x: u32) -> Result<V128, Refusal>
-        ensures { vector_answer result ≡ at_lane 32 lane (replace 32 (number self) lane x) }
-    {
-        lane_below(lane, 4)?;
-        let i = lane as usize;
-        let mut a = self.lanes32();
-        a[i] = x;
-        Ok(V128::join32(a))
-    }
-
-    pub fn splat64(x: u64) -> V128
-        ensures { number result ≡ splat 64 x }
-    {
-        V128 { lo: x, hi: x }
-    }
-
-    pub fn lane64(self, lane: u8) -> u64
-        ensures { result ≡ extract 64 (number self) lane }
-    {
-        if lane == 0 {
-            self.lo
-        } else if lane == 1 {
-            self.hi
-        } else {
-            0
-        }
-    }
-
-    pub fn replace64(self, lane: u8, x: u64) -> Result<V128, Refusal>
-        ensures { vector_answer result ≡ at_lane 64 lane (replace 64 (number self) lane x) }
-    {
-        match lane {
-            0 => Ok(V128 { lo: x, hi: self.hi }),
-            1 => Ok(V128 { lo: self.lo, hi: x }),
-            _ => Err(Refusal::Lane),
-        }
-    }
-
-    fn unary64(self, op: u8, count: u32) -> V128
-        ensures { number result ≡ unary 64 (unary_of (unaries 64 count) op) (number self) }
-    {
-        V128 {
-            lo: array_lanewise::unary64(op, count, self.lo),
-            hi: array_lanewise::unary64(op, count, self.hi),
-        }
-    }
-
-    fn binary64(self, rhs: V128, op: u8) -> V128
-        ensures { number result ≡ binary 64 (binary_of (take 9 (binaries 64)) op) (number self) (number rhs) }
-    {
-        V128 {
-            lo: array_lanewise::binary64(op, self.lo, rhs.lo),
-            hi: array_lanewise::binary64(op, self.hi, rhs.hi),
-        }
-    }
-
-    fn float_unary64(self, op: u8) -> V128
-        ensures { number result ≡ unary 64 (float_unary_of binary64 op) (number self) }
-    {
-        V128 {
-            lo: array_lanewise_float::float_unary64(op, self.lo),
-            hi: array_lanewise_float::float_unary64(op, self.hi),
-        }
-    }
-
-    fn float_binary64(self, rhs: V128, op: u8) -> V128
-        ensures { number result ≡ binary 64 (float_binary_of binary64 op) (number self) (number rhs) }
-    {
-        V128 {
-            lo: array_lanewise_float::float_binary64(op, self.lo, rhs.lo),
-            hi: array_lanewise_float::float_binary64(op, self.hi, rhs.hi),
-        }
-    }
-
-    fn arithmetic64(self, rhs: V128, op: u8) -> V128
-        ensures { number result ≡ binary 64 (arithmetic_of binary64 op) (number self) (number rhs) }
-    {
-        let r = lane_float_arithmetic::choose::pairs64(op, self.lo, self.hi, rhs.lo, rhs.hi);
-        V128 { lo: r[0], hi: r[1] }
     }
 }

@@ -5,7 +5,7 @@ ghost use Rattle.standard.specs.Vector.{swizzle, shuffle};
 ghost use Rattle.simd.specs.Answers.{vector_answer};
 ghost use Rattle.simd.specs.Number.{number};
 
-use crate::V128;
+use crate::{Lanes, V128};
 use array_reorder::{all_legal, beside, picked, swizzled};
 use standard_refusal::Refusal;
 
@@ -13,7 +13,7 @@ impl V128 {
     pub fn i8x16_swizzle(self, s: V128) -> V128
         ensures { number result ≡ swizzle (number self) (number s) }
     {
-        V128::join8(swizzled(self.lanes8(), s.places8()))
+        V128::join8(swizzled(self.lanes8(), u8::places(s)))
     }
 
     // Refused with 5 where an index is above 31, whatever its place.

@@ -6,7 +6,7 @@ ghost use Rattle.standard.specs.Relaxed.{relaxed_swizzle, relaxed_laneselect, re
 ghost use Rattle.simd.specs.Number.{number};
 
 use crate::V128;
-use array_lanewise::RELAXED_DOT;
+use lane_width::dot;
 
 impl V128 {
     pub fn i8x16_relaxed_swizzle(self, s: V128) -> V128
@@ -72,7 +72,7 @@ impl V128 {
     pub fn i16x8_relaxed_dot_i8x16_i7x16_s(self, rhs: V128) -> V128
         ensures { number result ≡ relaxed_dot (number self) (number rhs) }
     {
-        self.binary16(rhs, RELAXED_DOT)
+        self.binary(rhs, |a: u16, b| dot(a, b))
     }
 
     pub fn i32x4_relaxed_dot_i8x16_i7x16_add_s(self, rhs: V128, c: V128) -> V128

@@ -1,7 +1,0 @@
--- `simd::V128::splat16` meets its contract. Assumes nothing.
-use mathlib.Core.Path.{◌∙◌}
-use Rattle.standard.proofs.Access.{splat_is}
-use Rattle.simd.proofs.V128.splat16.Goals as goal
-
-pub returns : goal.returns
-returns c = c.join16.ensures ∙ splat_is 16 _

@@ -1,7 +1,0 @@
--- `simd::V128::splat8` meets its contract. Assumes nothing.
-use mathlib.Core.Path.{◌∙◌}
-use Rattle.standard.proofs.Access.{splat_is}
-use Rattle.simd.proofs.V128.splat8.Goals as goal
-
-pub returns : goal.returns
-returns c = c.join8.ensures ∙ splat_is 8 _
