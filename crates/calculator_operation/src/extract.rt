@@ -7,53 +7,54 @@ ghost use Rattle.calculator_scalar.specs.Scalar.{scalar_of};
 ghost use Rattle.calculator_families.specs.Family.{of_kind, as_extract};
 
 use calculator_scalar::Scalar;
+use lane_float::{F32, F64};
 use simd::V128;
-use simd::answer::{F32Answer, F64Answer, I32Answer, I64Answer, U32Answer};
+use standard_refusal::Refusal;
 
 const NOTHING: Scalar = Scalar::I32(0);
 
-fn of_i32(answer: I32Answer) -> Scalar
+fn of_i32(answer: Result<i32, Refusal>) -> Scalar
     ensures { scalar_of result ≡ of_kind i32 (i32_answer answer) }
 {
     match answer {
-        I32Answer::Value(x) => Scalar::I32(x),
-        I32Answer::Refused(_) => NOTHING,
+        Ok(x) => Scalar::I32(x),
+        Err(_) => NOTHING,
     }
 }
 
-fn of_u32(answer: U32Answer) -> Scalar
+fn of_u32(answer: Result<u32, Refusal>) -> Scalar
     ensures { scalar_of result ≡ of_kind i32 (u32_answer answer) }
 {
     match answer {
-        U32Answer::Value(x) => Scalar::of_bits(x),
-        U32Answer::Refused(_) => NOTHING,
+        Ok(x) => Scalar::of_bits(x),
+        Err(_) => NOTHING,
     }
 }
 
-fn of_i64(answer: I64Answer) -> Scalar
+fn of_i64(answer: Result<i64, Refusal>) -> Scalar
     ensures { scalar_of result ≡ of_kind i64 (i64_answer answer) }
 {
     match answer {
-        I64Answer::Value(x) => Scalar::I64(x),
-        I64Answer::Refused(_) => NOTHING,
+        Ok(x) => Scalar::I64(x),
+        Err(_) => NOTHING,
     }
 }
 
-fn of_f32(answer: F32Answer) -> Scalar
+fn of_f32(answer: Result<F32, Refusal>) -> Scalar
     ensures { scalar_of result ≡ of_kind f32 (f32_answer answer) }
 {
     match answer {
-        F32Answer::Value(x) => Scalar::F32(x),
-        F32Answer::Refused(_) => NOTHING,
+        Ok(x) => Scalar::F32(x),
+        Err(_) => NOTHING,
     }
 }
 
-fn of_f64(answer: F64Answer) -> Scalar
+fn of_f64(answer: Result<F64, Refusal>) -> Scalar
     ensures { scalar_of result ≡ of_kind f64 (f64_answer answer) }
 {
     match answer {
-        F64Answer::Value(x) => Scalar::F64(x),
-        F64Answer::Refused(_) => NOTHING,
+        Ok(x) => Scalar::F64(x),
+        Err(_) => NOTHING,
     }
 }
 

@@ -5,13 +5,13 @@ ghost use Rattle.simd.specs.Answers.{vector_answer};
 ghost use Rattle.calculator_families.specs.Family.{given_or};
 
 use simd::V128;
-use simd::answer::VectorAnswer;
+use standard_refusal::Refusal;
 
-pub fn vector(answer: VectorAnswer, otherwise: V128) -> V128
+pub fn vector(answer: Result<V128, Refusal>, otherwise: V128) -> V128
     ensures { number result ≡ given_or (number otherwise) (vector_answer answer) }
 {
     match answer {
-        VectorAnswer::Vector(v) => v,
-        VectorAnswer::Refused(_) => otherwise,
+        Ok(v) => v,
+        Err(_) => otherwise,
     }
 }

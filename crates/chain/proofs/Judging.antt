@@ -7,6 +7,7 @@ use Prim.Native.Nat.{ℕ, zero, suc, ◌+◌, ◌<◌, ◌≤◌}
 use native.Mathlib.Nat.{not-suc-le-zero, le_of_suc-le-suc}
 use native.Mathlib.Numerals.{add-one}
 use native.Mathlib.Omega.{arith}
+use borrow.Author.Tests.{le-ltb}
 use lib.Dec.{T, ltb}
 use lib.ListN.{length, get_or, drop, drop_of_length-le}
 use Rattle.standard.specs.Refusal.{legal}
@@ -61,3 +62,7 @@ turned false c e = ap not e
 -- all links are legal where those before the end are
 pub through : (links : List (List ℕ)) (k : ℕ) → length links ≤ k → all_legal (drop k links) ≡ all_legal links → all_legal links ≡ true
 through links k over e = sym e ∙ ap all_legal (drop_of_length-le links over)
+
+-- where there are no more than 16 links, their indices decide
+pub few_links : (links : List (List ℕ)) {b : Bool} → length links ≤ 16 → all_legal links ≡ b → cond b 0 5 ≡ refusal links
+few_links links few e = rw (le-ltb _ _ few, e)

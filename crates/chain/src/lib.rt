@@ -2,15 +2,12 @@
 // indices, so that every value of it has a meaning.
 #![tactic(auto)]
 
-ghost use Rattle.std.specs.Prelude.{◌≡◌, cond, ltb};
-ghost use Rattle.chain.specs.Definition.{indices, all_legal, refusal};
+ghost use Rattle.std.specs.Prelude.{◌≡◌};
+ghost use Rattle.standard_refusal.specs.Number.{code_of};
+ghost use Rattle.chain.specs.Definition.{indices, refusal};
 
 use array_reorder::all_legal;
-
-// "18 more than 16 links, then 5 for an index above 31".
-const LINKS: u8 = 18;
-
-const INDEX: u8 = 5;
+use standard_refusal::Refusal;
 
 pub fn indices_of(link: [u8; 17]) -> [u8; 16]
     ensures { result ≡ indices link }
@@ -21,27 +18,17 @@ pub fn indices_of(link: [u8; 17]) -> [u8; 16]
     ]
 }
 
-// Each test says what the later ones say where it passes.
-fn few(links: usize, later: u8) -> u8
-    ensures { result ≡ cond (ltb 16 links) 18 later }
+// "18 more than 16 links, then 5 for an index above 31".
+pub fn judge(links: &[[u8; 17]]) -> Result<(), Refusal>
+    ensures { code_of result ≡ refusal links.now }
 {
-    if links > 16 { LINKS } else { later }
-}
-
-fn legal(links: &[[u8; 17]], later: u8) -> u8
-    ensures { result ≡ cond (all_legal links.now) later 5 }
-{
-    for k in 0..links.len() {
-        if !all_legal(indices_of(links[k])) {
-            return INDEX;
+    if links.len() > 16 {
+        return Err(Refusal::Links);
+    }
+    for link in links {
+        if !all_legal(indices_of(*link)) {
+            return Err(Refusal::Index);
         }
     }
-    later
-}
-
-// 0, or the number of the chain's refusal.
-pub fn judge(links: &[[u8; 17]]) -> u8
-    ensures { result ≡ refusal links.now }
-{
-    few(links.len(), legal(links, 0))
+    Ok(())
 }

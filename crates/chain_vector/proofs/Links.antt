@@ -1,4 +1,4 @@
--- A link of a chain over vectors, from the answer of its shuffle; and the loop over the links.
+-- The loop over the links of a chain over vectors.
 -- Assumes nothing.
 use mathlib.Core.Path.{◌≡◌, refl, sym, ap, ap₂, ◌∙◌}
 use mathlib.Core.Bool.{Bool, true, cond}
@@ -10,27 +10,6 @@ use Rattle.standard.specs.Refusal.{Answer, given, refused, legal, at_indices}
 use Rattle.standard.specs.Vector.{shuffle}
 use Rattle.chain.specs.Definition.{indices, partner, chained, all_legal, refusal, answered, applied}
 use Rattle.chain.proofs.Judging.{one_more, link_legal}
-
-value : Answer ℕ → ℕ
-value (given x) = x
-value (refused n) = 0
-
-is_refused : Answer ℕ → ℕ
-is_refused (given x) = 0
-is_refused (refused n) = 1
-
-module _ (s is : List ℕ) (c p q : ℕ) (es : s ≡ is) (ep : p ≡ q) (h : legal is ≡ true) where
-  not_refused : at_indices s (shuffle s c p) ≡ given (shuffle is c q)
-  not_refused =
-      ap₂ (λ (t : List ℕ) (r : ℕ). at_indices t (shuffle t c r)) es ep ∙ ap (λ (b : Bool). cond b (given (shuffle is c q)) (refused 5)) h
-
-  pub shuffled : (x : ℕ) → given x ≡ at_indices s (shuffle s c p) → x ≡ shuffle is c q
-  unfolding value
-  shuffled x e = ap value (e ∙ not_refused)
-
-  pub never_refused : (n : ℕ) → refused n ≡ at_indices s (shuffle s c p) → ⊥
-  unfolding is_refused
-  never_refused n e = let z : ◌≡◌ {A = ℕ} 1 0 = ap is_refused (e ∙ not_refused) in omega (arith, z)
 
 -- what is left of the chain, from the current vector
 module _ (links : List (List ℕ)) (a b : ℕ) where
@@ -48,10 +27,3 @@ module _ (links : List (List ℕ)) (a b : ℕ) where
   all_links k current over unrefused e =
       ap given (ap (λ (rest : List (List ℕ)). chained rest a b current) (sym (drop_of_length-le links over)) ∙ e)
       ∙ ap (λ (n : ℕ). answered n (chained links a b a)) (sym unrefused)
-
-  pub refused_chain : (r : ℕ) → r ≡ refusal links → (r ≡ 0 → ⊥) → refused r ≡ applied links a b
-  refused_chain r e nonzero = by r nonzero ∙ ap (λ (n : ℕ). answered n (chained links a b a)) e
-    where
-      by : (r : ℕ) → (r ≡ 0 → ⊥) → refused r ≡ answered r (chained links a b a)
-      by zero nonzero = absurd (nonzero refl)
-      by (suc r) nonzero = refl

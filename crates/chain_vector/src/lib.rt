@@ -9,7 +9,7 @@ ghost use Rattle.simd.specs.Number.{number};
 ghost use Rattle.chain.specs.Definition.{indices, partner, applied};
 
 use simd::V128;
-use simd::answer::VectorAnswer;
+use standard_refusal::Refusal;
 
 fn partner_of(n: u8, a: V128, b: V128, current: V128) -> V128
     ensures { number result ≡ partner n (number a) (number b) (number current) }
@@ -25,23 +25,19 @@ fn partner_of(n: u8, a: V128, b: V128, current: V128) -> V128
 fn linked(link: [u8; 17], a: V128, b: V128, current: V128) -> V128
     ensures { legal (indices link) ≡ true → number result ≡ shuffle (indices link) (number current) (partner (get_or link 0 0) (number a) (number b) (number current)) }
 {
-    match current.i8x16_shuffle(partner_of(link[0], a, b, current), chain::indices_of(link)) {
-        VectorAnswer::Vector(next) => next,
-        VectorAnswer::Refused(_) => current,
-    }
+    current
+        .i8x16_shuffle(partner_of(link[0], a, b, current), chain::indices_of(link))
+        .unwrap_or(current)
 }
 
 // No program calls it. It is for whoever has two vectors in hand, and the theorem `one_shuffle` says that one shuffle by the folded list gives the same.
-pub fn apply(links: &[[u8; 17]], a: V128, b: V128) -> VectorAnswer
+pub fn apply(links: &[[u8; 17]], a: V128, b: V128) -> Result<V128, Refusal>
     ensures { vector_answer result ≡ applied links.now (number a) (number b) }
 {
-    let refused = chain::judge(links);
-    if refused != 0 {
-        return VectorAnswer::Refused(refused);
-    }
+    chain::judge(links)?;
     let mut current = a;
-    for k in 0..links.len() {
-        current = linked(links[k], a, b, current);
+    for link in links {
+        current = linked(*link, a, b, current);
     }
-    VectorAnswer::Vector(current)
+    Ok(current)
 }

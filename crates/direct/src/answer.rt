@@ -6,7 +6,7 @@ use memory_access::PAST;
 use memory_loads::LoadAnswer;
 use memory_store_answer::StoreAnswer;
 use simd::V128;
-use simd::answer::{F32Answer, F64Answer, I32Answer, I64Answer, U32Answer, VectorAnswer};
+use standard_refusal::Refusal;
 
 // No such function here, or no request to answer.
 const NONE: u8 = 255;
@@ -94,45 +94,45 @@ impl Answer {
         }
     }
 
-    pub fn of_vector(v: VectorAnswer) -> Answer {
+    pub fn of_vector(v: Result<V128, Refusal>) -> Answer {
         match v {
-            VectorAnswer::Vector(x) => Answer::vector(x),
-            VectorAnswer::Refused(number) => Answer::refused(number),
+            Ok(x) => Answer::vector(x),
+            Err(refusal) => Answer::refused(u8::from(refusal)),
         }
     }
 
-    pub fn of_i32(v: I32Answer) -> Answer {
+    pub fn of_i32(v: Result<i32, Refusal>) -> Answer {
         match v {
-            I32Answer::Value(x) => Answer::u32(unsigned32(x)),
-            I32Answer::Refused(number) => Answer::refused(number),
+            Ok(x) => Answer::u32(unsigned32(x)),
+            Err(refusal) => Answer::refused(u8::from(refusal)),
         }
     }
 
-    pub fn of_u32(v: U32Answer) -> Answer {
+    pub fn of_u32(v: Result<u32, Refusal>) -> Answer {
         match v {
-            U32Answer::Value(x) => Answer::u32(x),
-            U32Answer::Refused(number) => Answer::refused(number),
+            Ok(x) => Answer::u32(x),
+            Err(refusal) => Answer::refused(u8::from(refusal)),
         }
     }
 
-    pub fn of_i64(v: I64Answer) -> Answer {
+    pub fn of_i64(v: Result<i64, Refusal>) -> Answer {
         match v {
-            I64Answer::Value(x) => Answer::scalar(Kind::I64, unsigned64(x)),
-            I64Answer::Refused(number) => Answer::refused(number),
+            Ok(x) => Answer::scalar(Kind::I64, unsigned64(x)),
+            Err(refusal) => Answer::refused(u8::from(refusal)),
         }
     }
 
-    pub fn of_f32(v: F32Answer) -> Answer {
+    pub fn of_f32(v: Result<F32, Refusal>) -> Answer {
         match v {
-            F32Answer::Value(x) => Answer::scalar(Kind::F32, x.to_bits() as u64),
-            F32Answer::Refused(number) => Answer::refused(number),
+            Ok(x) => Answer::scalar(Kind::F32, x.to_bits() as u64),
+            Err(refusal) => Answer::refused(u8::from(refusal)),
         }
     }
 
-    pub fn of_f64(v: F64Answer) -> Answer {
+    pub fn of_f64(v: Result<F64, Refusal>) -> Answer {
         match v {
-            F64Answer::Value(x) => Answer::scalar(Kind::F64, x.to_bits()),
-            F64Answer::Refused(number) => Answer::refused(number),
+            Ok(x) => Answer::scalar(Kind::F64, x.to_bits()),
+            Err(refusal) => Answer::refused(u8::from(refusal)),
         }
     }
 

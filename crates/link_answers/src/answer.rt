@@ -13,7 +13,7 @@ use memory_bounds::PAST;
 use memory_loads::LoadAnswer;
 use memory_store_answer::StoreAnswer;
 use simd::V128;
-use simd::answer::{I32Answer, I64Answer, U32Answer, VectorAnswer};
+use standard_refusal::Refusal;
 
 // The bits of a lane; or the number of a refusal, 4, and the bits are 0.
 #[repr(C)]
@@ -56,64 +56,73 @@ fn wide(x: u32) -> u64
 }
 
 #[tactic(auto, unfolding(crate::specs::Handed::pair))]
-pub fn of_i32(answer: I32Answer) -> BitsOrRefusal
+pub fn of_i32(answer: Result<i32, Refusal>) -> BitsOrRefusal
     ensures { (result.bits, result.refused) ≡ pair (i32_answer answer) }
 {
     match answer {
-        I32Answer::Value(value) => BitsOrRefusal {
+        Ok(value) => BitsOrRefusal {
             bits: wide(unsigned32(value)),
             refused: 0,
         },
-        I32Answer::Refused(refused) => BitsOrRefusal { bits: 0, refused },
+        Err(refusal) => BitsOrRefusal {
+            bits: 0,
+            refused: u8::from(refusal),
+        },
     }
 }
 
 #[tactic(auto, unfolding(crate::specs::Handed::pair))]
-pub fn of_u32(answer: U32Answer) -> BitsOrRefusal
+pub fn of_u32(answer: Result<u32, Refusal>) -> BitsOrRefusal
     ensures { (result.bits, result.refused) ≡ pair (u32_answer answer) }
 {
     match answer {
-        U32Answer::Value(value) => BitsOrRefusal {
+        Ok(value) => BitsOrRefusal {
             bits: wide(value),
             refused: 0,
         },
-        U32Answer::Refused(refused) => BitsOrRefusal { bits: 0, refused },
+        Err(refusal) => BitsOrRefusal {
+            bits: 0,
+            refused: u8::from(refusal),
+        },
     }
 }
 
 #[tactic(auto, unfolding(crate::specs::Handed::pair))]
-pub fn of_i64(answer: I64Answer) -> BitsOrRefusal
+pub fn of_i64(answer: Result<i64, Refusal>) -> BitsOrRefusal
     ensures { (result.bits, result.refused) ≡ pair (i64_answer answer) }
 {
     match answer {
-        I64Answer::Value(value) => BitsOrRefusal {
+        Ok(value) => BitsOrRefusal {
             bits: unsigned64(value),
             refused: 0,
         },
-        I64Answer::Refused(refused) => BitsOrRefusal { bits: 0, refused },
+        Err(refusal) => BitsOrRefusal {
+            bits: 0,
+            refused: u8::from(refusal),
+        },
     }
 }
 
 #[tactic(auto, unfolding(crate::specs::Handed::pair))]
-pub fn of_vector(answer: VectorAnswer) -> VectorOrRefusal
+pub fn of_vector(answer: Result<V128, Refusal>) -> VectorOrRefusal
     ensures { (number result.vector, result.refused) ≡ pair (vector_answer answer) }
 {
     match answer {
-        VectorAnswer::Vector(vector) => VectorOrRefusal { vector, refused: 0 },
-        VectorAnswer::Refused(refused) => VectorOrRefusal {
+        Ok(vector) => VectorOrRefusal { vector, refused: 0 },
+        Err(refusal) => VectorOrRefusal {
             vector: V128 { lo: 0, hi: 0 },
-            refused,
+            refused: u8::from(refusal),
         },
     }
 }
 
 #[tactic(auto, unfolding(crate::specs::Handed::or_zero))]
-pub fn vector_or_zero(answer: VectorAnswer) -> V128
+pub fn vector_or_zero(answer: Result<V128, Refusal>) -> V128
     ensures { number result ≡ or_zero (vector_answer answer) }
 {
     match answer {
-        VectorAnswer::Vector(vector) => vector,
-        VectorAnswer::Refused(_) => V128 { lo: 0, hi: 0 },
+        Ok(vector) => vector,
+        Err(_) => V128 { lo: 0, hi: 0 },
     }
 }
 

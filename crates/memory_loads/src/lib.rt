@@ -16,7 +16,7 @@ use memory_access::{
     fetch64, fetch128,
 };
 use simd::V128;
-use simd::answer::{LANE, VectorAnswer};
+use standard_refusal::Refusal;
 
 // The vector; the number of a refusal, for a lane that is not below the lane count; or the shortfall of an access past the end.
 #[derive(Clone, Copy)]
@@ -27,12 +27,12 @@ pub enum LoadAnswer {
 }
 
 // The answer of an operation that is no access.
-fn of_vector(v: VectorAnswer) -> LoadAnswer
+fn of_vector(v: Result<V128, Refusal>) -> LoadAnswer
     ensures { load_answer result ≡ answered (vector_answer v) }
 {
     match v {
-        VectorAnswer::Vector(x) => LoadAnswer::Vector(x),
-        VectorAnswer::Refused(number) => LoadAnswer::Refused(number),
+        Ok(x) => LoadAnswer::Vector(x),
+        Err(refusal) => LoadAnswer::Refused(u8::from(refusal)),
     }
 }
 
@@ -166,7 +166,7 @@ fn lane8_from(memory: &[u8], ea: Effective, x: V128, lane: u8) -> LoadAnswer
     ensures { load_answer result ≡ load_lane 8 (number x) lane memory.now (effective ea) }
 {
     if lane >= 16 {
-        return LoadAnswer::Refused(LANE);
+        return LoadAnswer::Refused(u8::from(Refusal::Lane));
     }
     match fetch8(memory, ea) {
         Fetched8::Number(value) => of_vector(x.replace8(lane, value)),
@@ -178,7 +178,7 @@ fn lane16_from(memory: &[u8], ea: Effective, x: V128, lane: u8) -> LoadAnswer
     ensures { load_answer result ≡ load_lane 16 (number x) lane memory.now (effective ea) }
 {
     if lane >= 8 {
-        return LoadAnswer::Refused(LANE);
+        return LoadAnswer::Refused(u8::from(Refusal::Lane));
     }
     match fetch16(memory, ea) {
         Fetched16::Number(value) => of_vector(x.replace16(lane, value)),
@@ -190,7 +190,7 @@ fn lane32_from(memory: &[u8], ea: Effective, x: V128, lane: u8) -> LoadAnswer
     ensures { load_answer result ≡ load_lane 32 (number x) lane memory.now (effective ea) }
 {
     if lane >= 4 {
-        return LoadAnswer::Refused(LANE);
+        return LoadAnswer::Refused(u8::from(Refusal::Lane));
     }
     match fetch32(memory, ea) {
         Fetched32::Number(value) => of_vector(x.replace32(lane, value)),
@@ -202,7 +202,7 @@ fn lane64_from(memory: &[u8], ea: Effective, x: V128, lane: u8) -> LoadAnswer
     ensures { load_answer result ≡ load_lane 64 (number x) lane memory.now (effective ea) }
 {
     if lane >= 2 {
-        return LoadAnswer::Refused(LANE);
+        return LoadAnswer::Refused(u8::from(Refusal::Lane));
     }
     match fetch64(memory, ea) {
         Fetched64::Number(value) => of_vector(x.replace64(lane, value)),

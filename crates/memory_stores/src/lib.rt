@@ -12,7 +12,7 @@ ghost use Rattle.memory_store_answer.specs.StoreAnswer.{store_answer};
 use memory_access::{Effective, put8, put16, put32, put64, put128};
 use memory_store_answer::{StoreAnswer, answered};
 use simd::V128;
-use simd::answer::LANE;
+use standard_refusal::Refusal;
 
 fn store_to(memory: &mut [u8], ea: Effective, value: V128) -> StoreAnswer
     ensures { store_answer result memory.new ≡ stored (store 16 (number value) memory.old (effective ea)) memory.old }
@@ -24,7 +24,7 @@ fn lane8_to(memory: &mut [u8], ea: Effective, value: V128, lane: u8) -> StoreAns
     ensures { store_answer result memory.new ≡ stored (store_lane 8 (number value) lane memory.old (effective ea)) memory.old }
 {
     if lane >= 16 {
-        return StoreAnswer::Refused(LANE);
+        return StoreAnswer::Refused(u8::from(Refusal::Lane));
     }
     answered(put8(memory, ea, value.lane8(lane)))
 }
@@ -33,7 +33,7 @@ fn lane16_to(memory: &mut [u8], ea: Effective, value: V128, lane: u8) -> StoreAn
     ensures { store_answer result memory.new ≡ stored (store_lane 16 (number value) lane memory.old (effective ea)) memory.old }
 {
     if lane >= 8 {
-        return StoreAnswer::Refused(LANE);
+        return StoreAnswer::Refused(u8::from(Refusal::Lane));
     }
     answered(put16(memory, ea, value.lane16(lane)))
 }
@@ -42,7 +42,7 @@ fn lane32_to(memory: &mut [u8], ea: Effective, value: V128, lane: u8) -> StoreAn
     ensures { store_answer result memory.new ≡ stored (store_lane 32 (number value) lane memory.old (effective ea)) memory.old }
 {
     if lane >= 4 {
-        return StoreAnswer::Refused(LANE);
+        return StoreAnswer::Refused(u8::from(Refusal::Lane));
     }
     answered(put32(memory, ea, value.lane32(lane)))
 }
@@ -51,7 +51,7 @@ fn lane64_to(memory: &mut [u8], ea: Effective, value: V128, lane: u8) -> StoreAn
     ensures { store_answer result memory.new ≡ stored (store_lane 64 (number value) lane memory.old (effective ea)) memory.old }
 {
     if lane >= 2 {
-        return StoreAnswer::Refused(LANE);
+        return StoreAnswer::Refused(u8::from(Refusal::Lane));
     }
     answered(put64(memory, ea, value.lane64(lane)))
 }

@@ -5,6 +5,7 @@ use mathlib.Core.Path.{◌≡◌, sym, ap, ◌∙◌}
 use Prim.Native.Nat.{ℕ, ◌/◌, ◌%◌, ◌^◌, ◌<◌}
 use native.Mathlib.Omega.{arith}
 use lib.IntN.{ℤ}
+use Rattle.std.specs.Prelude.{Result, Ok, Err}
 use mir.Syntax.{Width, w32, w64}
 use mir.Val.{SFits, bits, to_z}
 use mir.Facts.{to_z-of_z}
@@ -12,11 +13,10 @@ use Rattle.standard.specs.Integer.{modulo}
 use Rattle.standard.specs.Refusal.{Answer, given, refused}
 use Rattle.standard.proofs.Digits.{low_digit, rest_digits}
 use Rattle.lane_integer.proofs.Signed.{modulo_is}
+use Rattle.standard_refusal.specs.declared.Refusal.{Refusal}
 use Rattle.simd.specs.declared.V128.{V128}
-use Rattle.simd.specs.declared.answer.VectorAnswer.{VectorAnswer}
-use Rattle.simd.specs.declared.answer.I32Answer.{I32Answer}
-use Rattle.simd.specs.declared.answer.U32Answer.{U32Answer}
-use Rattle.simd.specs.declared.answer.I64Answer.{I64Answer}
+use Rattle.standard_refusal.specs.Number.{number_of}
+use Rattle.standard_refusal.proofs.Numbers.{same_number}
 use Rattle.simd.specs.Number.{number}
 use Rattle.simd.specs.Answers.{vector_answer, i32_answer, u32_answer, i64_answer}
 
@@ -42,44 +42,44 @@ signed_coincide w y z f g e = sym (to_z-of_z f) ∙ ap (to_z w) (sym (modulo_is 
 same_value : {a b : ℕ} → ◌≡◌ {A = Answer ℕ} (given a) (given b) → a ≡ b
 same_value e = cc
 
-same_refusal : {m n : ℕ} → ◌≡◌ {A = Answer ℕ} (refused m) (refused n) → m ≡ n
-same_refusal e = cc
+same_refusal : (m n : Refusal) → ◌≡◌ {A = Answer ℕ} (refused (number_of m)) (refused (number_of n)) → m ≡ n
+same_refusal m n e = let same : number_of m ≡ number_of n = cc in same_number m n same
 
 never : {X : Type 0} {a n : ℕ} → given a ≡ refused n → X
 never e = let z : ◌≡◌ {A = ℕ} 0 1 = cc in absurd (omega arith)
 
-abbrev pub HeldVector : VectorAnswer → Type 0
-HeldVector (VectorAnswer.Vector v) = Held v
-HeldVector (VectorAnswer.Refused n) = Unit {0}
+abbrev pub HeldVector : Result V128 Refusal → Type 0
+HeldVector (Ok v) = Held v
+HeldVector (Err n) = Unit {0}
 
-pub vector_answers_coincide : (a b : VectorAnswer) → HeldVector a → HeldVector b → vector_answer a ≡ vector_answer b → a ≡ b
-vector_answers_coincide (VectorAnswer.Vector a) (VectorAnswer.Vector b) ha hb e = ap VectorAnswer.Vector (vectors_coincide a b ha hb (same_value e))
-vector_answers_coincide (VectorAnswer.Vector a) (VectorAnswer.Refused n) ha hb e = never e
-vector_answers_coincide (VectorAnswer.Refused m) (VectorAnswer.Vector b) ha hb e = never (sym e)
-vector_answers_coincide (VectorAnswer.Refused m) (VectorAnswer.Refused n) ha hb e = ap VectorAnswer.Refused (same_refusal e)
+pub vector_answers_coincide : (a b : Result V128 Refusal) → HeldVector a → HeldVector b → vector_answer a ≡ vector_answer b → a ≡ b
+vector_answers_coincide (Ok a) (Ok b) ha hb e = ap Ok (vectors_coincide a b ha hb (same_value e))
+vector_answers_coincide (Ok a) (Err n) ha hb e = never e
+vector_answers_coincide (Err m) (Ok b) ha hb e = never (sym e)
+vector_answers_coincide (Err m) (Err n) ha hb e = ap Err (same_refusal m n e)
 
-abbrev pub HeldI32 : I32Answer → Type 0
-HeldI32 (I32Answer.Value z) = SFits w32 z
-HeldI32 (I32Answer.Refused n) = Unit {0}
+abbrev pub HeldI32 : Result ℤ Refusal → Type 0
+HeldI32 (Ok z) = SFits w32 z
+HeldI32 (Err n) = Unit {0}
 
-pub i32_answers_coincide : (a b : I32Answer) → HeldI32 a → HeldI32 b → i32_answer a ≡ i32_answer b → a ≡ b
-i32_answers_coincide (I32Answer.Value y) (I32Answer.Value z) f g e = ap I32Answer.Value (signed_coincide w32 y z f g (same_value e))
-i32_answers_coincide (I32Answer.Value y) (I32Answer.Refused n) f g e = never e
-i32_answers_coincide (I32Answer.Refused m) (I32Answer.Value z) f g e = never (sym e)
-i32_answers_coincide (I32Answer.Refused m) (I32Answer.Refused n) f g e = ap I32Answer.Refused (same_refusal e)
+pub i32_answers_coincide : (a b : Result ℤ Refusal) → HeldI32 a → HeldI32 b → i32_answer a ≡ i32_answer b → a ≡ b
+i32_answers_coincide (Ok y) (Ok z) f g e = ap Ok (signed_coincide w32 y z f g (same_value e))
+i32_answers_coincide (Ok y) (Err n) f g e = never e
+i32_answers_coincide (Err m) (Ok z) f g e = never (sym e)
+i32_answers_coincide (Err m) (Err n) f g e = ap Err (same_refusal m n e)
 
-abbrev pub HeldI64 : I64Answer → Type 0
-HeldI64 (I64Answer.Value z) = SFits w64 z
-HeldI64 (I64Answer.Refused n) = Unit {0}
+abbrev pub HeldI64 : Result ℤ Refusal → Type 0
+HeldI64 (Ok z) = SFits w64 z
+HeldI64 (Err n) = Unit {0}
 
-pub i64_answers_coincide : (a b : I64Answer) → HeldI64 a → HeldI64 b → i64_answer a ≡ i64_answer b → a ≡ b
-i64_answers_coincide (I64Answer.Value y) (I64Answer.Value z) f g e = ap I64Answer.Value (signed_coincide w64 y z f g (same_value e))
-i64_answers_coincide (I64Answer.Value y) (I64Answer.Refused n) f g e = never e
-i64_answers_coincide (I64Answer.Refused m) (I64Answer.Value z) f g e = never (sym e)
-i64_answers_coincide (I64Answer.Refused m) (I64Answer.Refused n) f g e = ap I64Answer.Refused (same_refusal e)
+pub i64_answers_coincide : (a b : Result ℤ Refusal) → HeldI64 a → HeldI64 b → i64_answer a ≡ i64_answer b → a ≡ b
+i64_answers_coincide (Ok y) (Ok z) f g e = ap Ok (signed_coincide w64 y z f g (same_value e))
+i64_answers_coincide (Ok y) (Err n) f g e = never e
+i64_answers_coincide (Err m) (Ok z) f g e = never (sym e)
+i64_answers_coincide (Err m) (Err n) f g e = ap Err (same_refusal m n e)
 
-pub u32_answers_coincide : (a b : U32Answer) → u32_answer a ≡ u32_answer b → a ≡ b
-u32_answers_coincide (U32Answer.Value i) (U32Answer.Value j) e = ap U32Answer.Value (same_value e)
-u32_answers_coincide (U32Answer.Value i) (U32Answer.Refused n) e = never e
-u32_answers_coincide (U32Answer.Refused m) (U32Answer.Value j) e = never (sym e)
-u32_answers_coincide (U32Answer.Refused m) (U32Answer.Refused n) e = ap U32Answer.Refused (same_refusal e)
+pub u32_answers_coincide : (a b : Result ℕ Refusal) → u32_answer a ≡ u32_answer b → a ≡ b
+u32_answers_coincide (Ok i) (Ok j) e = ap Ok (same_value e)
+u32_answers_coincide (Ok i) (Err n) e = never e
+u32_answers_coincide (Err m) (Ok j) e = never (sym e)
+u32_answers_coincide (Err m) (Err n) e = ap Err (same_refusal m n e)

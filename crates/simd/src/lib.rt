@@ -2,7 +2,6 @@
 // lanes as arrays and back, and the loops over lanes.
 #![tactic(auto)]
 
-pub mod answer;
 pub mod arithmetic;
 pub mod bitwise;
 pub mod compare;
@@ -27,7 +26,7 @@ ghost use Rattle.array_lanewise_float.specs.LanewiseFloat.{float_unary_of, float
 ghost use Rattle.simd.specs.Number.{number};
 ghost use Rattle.simd.specs.Answers.{vector_answer};
 
-use answer::{LANE, VectorAnswer};
+use standard_refusal::{Refusal, lane_below};
 
 // The 128 bits of a vector, low half first: byte 0 is the low byte of `lo`. Its layout is C's, so that another language can hand one over.
 #[repr(C)]
@@ -371,17 +370,14 @@ impl V128 {
         }
     }
 
-    pub fn replace8(self, lane: u8, x: u8) -> VectorAnswer
+    pub fn replace8(self, lane: u8, x: u8) -> Result<V128, Refusal>
         ensures { vector_answer result ≡ at_lane 8 lane (replace 8 (number self) lane x) }
     {
-        if lane < 16 {
-            let i = lane as usize;
-            let mut a = self.lanes8();
-            a[i] = x;
-            VectorAnswer::Vector(V128::join8(a))
-        } else {
-            VectorAnswer::Refused(LANE)
-        }
+        lane_below(lane, 16)?;
+        let i = lane as usize;
+        let mut a = self.lanes8();
+        a[i] = x;
+        Ok(V128::join8(a))
     }
 
     pub fn splat16(x: u16) -> V128
@@ -402,17 +398,14 @@ impl V128 {
         }
     }
 
-    pub fn replace16(self, lane: u8, x: u16) -> VectorAnswer
+    pub fn replace16(self, lane: u8, x: u16) -> Result<V128, Refusal>
         ensures { vector_answer result ≡ at_lane 16 lane (replace 16 (number self) lane x) }
     {
-        if lane < 8 {
-            let i = lane as usize;
-            let mut a = self.lanes16();
-            a[i] = x;
-            VectorAnswer::Vector(V128::join16(a))
-        } else {
-            VectorAnswer::Refused(LANE)
-        }
+        lane_below(lane, 8)?;
+        let i = lane as usize;
+        let mut a = self.lanes16();
+        a[i] = x;
+        Ok(V128::join16(a))
     }
 
     pub fn splat32(x: u32) -> V128
@@ -433,17 +426,14 @@ impl V128 {
         }
     }
 
-    pub fn replace32(self, lane: u8, x: u32) -> VectorAnswer
+    pub fn replace32(self, lane: u8, x: u32) -> Result<V128, Refusal>
         ensures { vector_answer result ≡ at_lane 32 lane (replace 32 (number self) lane x) }
     {
-        if lane < 4 {
-            let i = lane as usize;
-            let mut a = self.lanes32();
-            a[i] = x;
-            VectorAnswer::Vector(V128::join32(a))
-        } else {
-            VectorAnswer::Refused(LANE)
-        }
+        lane_below(lane, 4)?;
+        let i = lane as usize;
+        let mut a = self.lanes32();
+        a[i] = x;
+        Ok(V128::join32(a))
     }
 
     pub fn splat64(x: u64) -> V128
@@ -464,15 +454,13 @@ impl V128 {
         }
     }
 
-    pub fn replace64(self, lane: u8, x: u64) -> VectorAnswer
+    pub fn replace64(self, lane: u8, x: u64) -> Result<V128, Refusal>
         ensures { vector_answer result ≡ at_lane 64 lane (replace 64 (number self) lane x) }
     {
-        if lane == 0 {
-            VectorAnswer::Vector(V128 { lo: x, hi: self.hi })
-        } else if lane == 1 {
-            VectorAnswer::Vector(V128 { lo: self.lo, hi: x })
-        } else {
-            VectorAnswer::Refused(LANE)
+        match lane {
+            0 => Ok(V128 { lo: x, hi: self.hi }),
+            1 => Ok(V128 { lo: self.lo, hi: x }),
+            _ => Err(Refusal::Lane),
         }
     }
 

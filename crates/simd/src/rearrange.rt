@@ -6,8 +6,8 @@ ghost use Rattle.simd.specs.Answers.{vector_answer};
 ghost use Rattle.simd.specs.Number.{number};
 
 use crate::V128;
-use crate::answer::{INDEX, VectorAnswer};
 use array_reorder::{all_legal, beside, picked, swizzled};
+use standard_refusal::Refusal;
 
 impl V128 {
     pub fn i8x16_swizzle(self, s: V128) -> V128
@@ -17,13 +17,13 @@ impl V128 {
     }
 
     // Refused with 5 where an index is above 31, whatever its place.
-    pub fn i8x16_shuffle(self, b: V128, s: [u8; 16]) -> VectorAnswer
+    pub fn i8x16_shuffle(self, b: V128, s: [u8; 16]) -> Result<V128, Refusal>
         ensures { vector_answer result ≡ at_indices s (shuffle s (number self) (number b)) }
     {
         if all_legal(s) {
-            VectorAnswer::Vector(V128::join8(picked(beside(self.lanes8(), b.lanes8()), s)))
+            Ok(V128::join8(picked(beside(self.lanes8(), b.lanes8()), s)))
         } else {
-            VectorAnswer::Refused(INDEX)
+            Err(Refusal::Index)
         }
     }
 }

@@ -8,42 +8,42 @@ ghost use Rattle.simd.specs.Answers.{vector_answer};
 ghost use Rattle.simd.specs.Number.{number};
 
 use crate::V128;
-use crate::answer::VectorAnswer;
 use lane_float::{F32, F64};
 use lane_integer::reinterpret::{unsigned8, unsigned16, unsigned32, unsigned64};
+use standard_refusal::Refusal;
 
 impl V128 {
-    pub fn i64x2_replace_lane(self, lane: u8, item: i64) -> VectorAnswer
+    pub fn i64x2_replace_lane(self, lane: u8, item: i64) -> Result<V128, Refusal>
         ensures { vector_answer result ≡ at_lane 64 lane (replace 64 (number self) lane (modulo 64 item)) }
     {
         self.replace64(lane, unsigned64(item))
     }
 
-    pub fn i32x4_replace_lane(self, lane: u8, item: i32) -> VectorAnswer
+    pub fn i32x4_replace_lane(self, lane: u8, item: i32) -> Result<V128, Refusal>
         ensures { vector_answer result ≡ at_lane 32 lane (replace 32 (number self) lane (modulo 32 item)) }
     {
         self.replace32(lane, unsigned32(item))
     }
 
-    pub fn i16x8_replace_lane(self, lane: u8, item: i16) -> VectorAnswer
+    pub fn i16x8_replace_lane(self, lane: u8, item: i16) -> Result<V128, Refusal>
         ensures { vector_answer result ≡ at_lane 16 lane (replace 16 (number self) lane (modulo 16 item)) }
     {
         self.replace16(lane, unsigned16(item))
     }
 
-    pub fn i8x16_replace_lane(self, lane: u8, item: i8) -> VectorAnswer
+    pub fn i8x16_replace_lane(self, lane: u8, item: i8) -> Result<V128, Refusal>
         ensures { vector_answer result ≡ at_lane 8 lane (replace 8 (number self) lane (modulo 8 item)) }
     {
         self.replace8(lane, unsigned8(item))
     }
 
-    pub fn f64x2_replace_lane(self, lane: u8, item: F64) -> VectorAnswer
+    pub fn f64x2_replace_lane(self, lane: u8, item: F64) -> Result<V128, Refusal>
         ensures { vector_answer result ≡ at_lane 64 lane (replace 64 (number self) lane (f64_bits item)) }
     {
         self.replace64(lane, item.to_bits())
     }
 
-    pub fn f32x4_replace_lane(self, lane: u8, item: F32) -> VectorAnswer
+    pub fn f32x4_replace_lane(self, lane: u8, item: F32) -> Result<V128, Refusal>
         ensures { vector_answer result ≡ at_lane 32 lane (replace 32 (number self) lane (f32_bits item)) }
     {
         self.replace32(lane, item.to_bits())

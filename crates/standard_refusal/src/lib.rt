@@ -1,7 +1,7 @@
 // The refusals, each with its fixed number (document 01, the table "No., Given exactly when, Returns and leaves"; document 02, in the orders).
 #![tactic(auto)]
 
-ghost use Rattle.std.specs.Prelude.{◌≡◌};
+ghost use Rattle.std.specs.Prelude.{◌≡◌, ◌<◌, ◌≤◌, OnOk, IfErr};
 ghost use Rattle.standard_refusal.specs.Number.{number_of, code_of};
 
 /// Why nothing was done.
@@ -62,5 +62,17 @@ pub fn code<T: Copy>(outcome: Result<T, Refusal>) -> u8
     match outcome {
         Ok(_) => 0,
         Err(refusal) => u8::from(refusal),
+    }
+}
+
+/// The test of a lane's number, on which every access to one lane begins.
+pub fn lane_below(lane: u8, lanes: u8) -> Result<(), Refusal>
+    ensures below { OnOk result (lane < lanes) }
+    ensures refused { IfErr result (λ refusal. (refusal ≡ Refusal.Lane) × (lanes ≤ lane)) }
+{
+    if lane < lanes {
+        Ok(())
+    } else {
+        Err(Refusal::Lane)
     }
 }

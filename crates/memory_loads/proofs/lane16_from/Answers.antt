@@ -4,7 +4,7 @@ use Rattle.memory_access.proofs.Shapes.{lane_loaded, lane_unloaded, lane_not_loa
 use Rattle.memory_loads.proofs.lane16_from.Goals as goal
 
 pub returns-then-lane-ge8 : goal.returns-then-lane-ge8
-returns-then-lane-ge8 c = lane_not_loaded _ _ _ 16 _ c.if-lane-ge8.true
+returns-then-lane-ge8 c = rw c.from.ensures (lane_not_loaded _ _ _ 16 _ c.if-lane-ge8.true)
 
 pub returns-in-Number : goal.returns-in-Number
 returns-in-Number c =

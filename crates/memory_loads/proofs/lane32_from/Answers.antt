@@ -4,7 +4,7 @@ use Rattle.memory_access.proofs.Shapes.{lane_loaded, lane_unloaded, lane_not_loa
 use Rattle.memory_loads.proofs.lane32_from.Goals as goal
 
 pub returns-then-lane-ge4 : goal.returns-then-lane-ge4
-returns-then-lane-ge4 c = lane_not_loaded _ _ _ 32 _ c.if-lane-ge4.true
+returns-then-lane-ge4 c = rw c.from.ensures (lane_not_loaded _ _ _ 32 _ c.if-lane-ge4.true)
 
 pub returns-in-Number : goal.returns-in-Number
 returns-in-Number c =

@@ -4,7 +4,7 @@ use Rattle.memory_access.proofs.Shapes.{lane_loaded, lane_unloaded, lane_not_loa
 use Rattle.memory_loads.proofs.lane64_from.Goals as goal
 
 pub returns-then-lane-ge2 : goal.returns-then-lane-ge2
-returns-then-lane-ge2 c = lane_not_loaded _ _ _ 64 _ c.if-lane-ge2.true
+returns-then-lane-ge2 c = rw c.from.ensures (lane_not_loaded _ _ _ 64 _ c.if-lane-ge2.true)
 
 pub returns-in-Number : goal.returns-in-Number
 returns-in-Number c =

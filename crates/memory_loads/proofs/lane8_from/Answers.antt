@@ -4,7 +4,7 @@ use Rattle.memory_access.proofs.Shapes.{lane_loaded, lane_unloaded, lane_not_loa
 use Rattle.memory_loads.proofs.lane8_from.Goals as goal
 
 pub returns-then-lane-ge16 : goal.returns-then-lane-ge16
-returns-then-lane-ge16 c = lane_not_loaded _ _ _ 8 _ c.if-lane-ge16.true
+returns-then-lane-ge16 c = rw c.from.ensures (lane_not_loaded _ _ _ 8 _ c.if-lane-ge16.true)
 
 pub returns-in-Number : goal.returns-in-Number
 returns-in-Number c =

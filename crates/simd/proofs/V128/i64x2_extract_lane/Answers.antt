@@ -3,14 +3,11 @@ use borrow.Author.Rules.{rules}
 use mathlib.Core.Path.{ap, ◌∙◌}
 use mir.Syntax.{w64}
 use Rattle.standard.specs.Integer.{modulo}
-use Rattle.standard.proofs.Access.{lane_taken, lane_refused}
+use Rattle.standard.proofs.Access.{lane_taken}
 use Rattle.lane_integer.proofs.Magnitude.{kept}
 use Rattle.lane_integer.proofs.Signed.{modulo_signed}
 use Rattle.simd.proofs.V128.i64x2_extract_lane.Goals as goal
 
-pub returns-then-lane-lt2 : goal.returns-then-lane-lt2
-returns-then-lane-lt2 c = lane_taken 64 _ c.if-lane-lt2.true
+pub returns : goal.returns
+returns c = lane_taken 64 _ c.in_ok-lane_below.ensures.below
     (ap (modulo 64) (kept w64 c.signed64.type_inv c.signed64.ensures) ∙ modulo_signed w64 _ (search rules) ∙ c.lane64.ensures)
-
-pub returns-else-lane-lt2 : goal.returns-else-lane-lt2
-returns-else-lane-lt2 c = lane_refused 64 _ _ c.if-lane-lt2.false
