@@ -11,8 +11,8 @@ use lib.Dec.{T, ltb, leb, eqb}
 use lib.Ieee.{Float, nan, inf, fin, Format, binary32, binary64, top, ones, hid, low, prec, odd, below, level, lt, eq, of_fields, of_bits, to_bits, nan_bits, is_nan}
 use lib.Ieee.Bits.{nan_bits_is}
 use Rattle.standard.specs.Float.{under, fmin, fmax}
-use Rattle.lane_float.proofs.FloatOrder.{ordered}
-use Rattle.lane_float.proofs.Together.{set_sign, same_size}
+use Rattle.lane_float_value.proofs.FloatOrder.{ordered}
+use Rattle.lane_float_value.proofs.Together.{set_sign, same_size}
 
 never : false ≡ true → ⊥
 never e = subst (λ (b : Bool). T (not b)) e tt
@@ -216,3 +216,17 @@ module _ (f : Format) (a b : ℕ) {t : Bool} (e : t ≡ not (nan_bits f a || nan
 
   pub with_nan : t ≡ false → (x : ℕ) → to_bits f nan ≡ cond (nan_bits f a || nan_bits f b) (to_bits f nan) x
   with_nan h x = rw (not-false (nan_bits f a || nan_bits f b) (sym e ∙ h))
+
+pub sign_fits : (f : Format) (x : ℕ) (s : Bool) → x < 2 * top f → bit_or x (cond s (top f) 0) < 2 * top f
+sign_fits binary32 x true h = omega (arith, set_sign binary32 x h)
+sign_fits binary64 x true h = omega (arith, set_sign binary64 x h)
+sign_fits f x false h = subst (λ (n : ℕ). n < 2 * top f) (sym (or_zero_r x)) h
+
+-- of values that have patterns, one picked by a test
+module _ {P : Type 0} (bits : P → ℕ) (b first : P) where
+  picked : {r : P} (u : Bool) → r ≡ cond u b first → bits r ≡ cond u (bits b) (bits first)
+  picked true h = ap bits h
+  picked false h = ap bits h
+
+  pub one_of : {r : P} {t u : Bool} {n : ℕ} → r ≡ cond t b first → t ≡ u → bits first ≡ n → bits r ≡ cond u (bits b) n
+  one_of {r} {t} {u} h e k = picked t h ∙ ap₂ (λ (v : Bool) (m : ℕ). cond v (bits b) m) e k

@@ -2,76 +2,38 @@
 // numbers decides. Where neither is below the other they are equal, and differ in their signs at most: then the signs decide, −0 below +0.
 #![tactic(auto)]
 
-ghost use Rattle.std.specs.Prelude.{◌≡◌, cond, leb};
-ghost use Rattle.std.specs.Float.{binary32, binary64};
+ghost use Rattle.std.specs.Prelude.{◌≡◌, ◌*◌, ◌<◌, cond, leb};
 ghost use Rattle.std.specs.Float.Ieee.{top};
 ghost use Rattle.standard.specs.Float.{fmin, fmax};
 
-use lane_float::{ordered32, ordered64};
-use lane_float_value::*;
+use lane_float_value::{Pattern, pick};
 
 // The sign alone.
-fn sign32(b: u32) -> u32
-    ensures { result ≡ cond (leb (top binary32) b) (top binary32) 0 }
+fn sign<P: Pattern>(b: P) -> u64
+    ensures sign { result ≡ cond (leb (top P.format) (P.bits b)) (top P.format) 0 }
+    ensures fits { P.bits b < 2 * top P.format }
 {
-    if 0x8000_0000 <= b { 0x8000_0000 } else { 0 }
+    if P::SIGN <= b.to_u64() { P::SIGN } else { 0 }
 }
 
-pub fn fmin32(a: u32, b: u32) -> u32
-    ensures { result ≡ fmin binary32 a b }
+pub fn fmin<P: Pattern>(a: P, b: P) -> P
+    ensures { P.bits result ≡ fmin P.format (P.bits a) (P.bits b) }
 {
-    if ordered32(a, b) {
-        pick32(f32::from_bits(b) < f32::from_bits(a), b, a | sign32(b))
+    if a.ordered(b) {
+        let first = P::from_u64(a.to_u64() | sign(b));
+        pick(b.number() < a.number(), b, first)
     } else {
-        NAN32
+        P::nan()
     }
 }
 
-pub fn fmax32(a: u32, b: u32) -> u32
-    ensures { result ≡ fmax binary32 a b }
+pub fn fmax<P: Pattern>(a: P, b: P) -> P
+    ensures { P.bits result ≡ fmax P.format (P.bits a) (P.bits b) }
 {
-    if ordered32(a, b) {
-        pick32(
-            f32::from_bits(a) < f32::from_bits(b),
-            b,
-            a & (b | 0x7FFF_FFFF),
-        )
+    if a.ordered(b) {
+        let first = P::from_u64(a.to_u64() & (b.to_u64() | (P::SIGN - 1)));
+        pick(a.number() < b.number(), b, first)
     } else {
-        NAN32
-    }
-}
-
-// The sign alone.
-fn sign64(b: u64) -> u64
-    ensures { result ≡ cond (leb (top binary64) b) (top binary64) 0 }
-{
-    if 0x8000_0000_0000_0000 <= b {
-        0x8000_0000_0000_0000
-    } else {
-        0
-    }
-}
-
-pub fn fmin64(a: u64, b: u64) -> u64
-    ensures { result ≡ fmin binary64 a b }
-{
-    if ordered64(a, b) {
-        pick64(f64::from_bits(b) < f64::from_bits(a), b, a | sign64(b))
-    } else {
-        NAN64
-    }
-}
-
-pub fn fmax64(a: u64, b: u64) -> u64
-    ensures { result ≡ fmax binary64 a b }
-{
-    if ordered64(a, b) {
-        pick64(
-            f64::from_bits(a) < f64::from_bits(b),
-            b,
-            a & (b | 0x7FFF_FFFF_FFFF_FFFF),
-        )
-    } else {
-        NAN64
+        P::nan()
     }
 }

@@ -34,9 +34,9 @@ pub fn demote(bits: u64) -> u32
         return sign;
     }
     if 0x7FF0_0000 <= size {
-        return pick32(
+        return pick(
             0x7FF0_0000_0000_0000 < bits % 0x8000_0000_0000_0000,
-            NAN32,
+            u32::nan(),
             sign + 0x7F80_0000,
         );
     }
@@ -72,8 +72,8 @@ fn by_top(n: u32, k: u32) -> u32
 {
     let v = n << (31 - k);
     let q = v / 256;
-    let up = pick32(128 < v % 256 + q % 2, 1, 0);
-    pick32(n == 0, 0, ((126 + k) << 23) + q + up)
+    let up = pick(128 < v % 256 + q % 2, 1, 0);
+    pick(n == 0, 0, ((126 + k) << 23) + q + up)
 }
 
 pub fn convert_u32x4(a: [u32; 4]) -> [u32; 4]
@@ -94,7 +94,7 @@ fn by_top_s(x: u32, n: u32, k: u32) -> u32
     requires k_value { k ≡ top_digit n }
     ensures { result ≡ convert_s binary32 x }
 {
-    pick32(0x8000_0000 <= x, 0x8000_0000, 0) + by_top(n, k)
+    pick(0x8000_0000 <= x, 0x8000_0000, 0) + by_top(n, k)
 }
 
 // The magnitudes. At a place there is little to do, so the loop is over 64 of them.

@@ -18,8 +18,8 @@ fn trunc_sat_u32(bits: u32) -> u32
 {
     let down = (542 - bits / 0x80_0000) % 32;
     let part = ((bits % 0x80_0000) * 256 + 0x8000_0000) >> down;
-    let capped = pick32(0x4F80_0000 <= bits, u32::MAX, part);
-    pick32((bits < 0x3F80_0000) | (0x7F80_0000 < bits), OF_NAN, capped)
+    let capped = pick(0x4F80_0000 <= bits, u32::MAX, part);
+    pick((bits < 0x3F80_0000) | (0x7F80_0000 < bits), OF_NAN, capped)
 }
 
 // The same of the magnitude, and the sign by all ones or none: a number is turned to its negative by an exclusive-or with them and a difference.
@@ -29,10 +29,10 @@ fn trunc_sat_s32(bits: u32) -> u32
     let size = bits % 0x8000_0000;
     let down = (542 - bits / 0x80_0000) % 32;
     let part = ((bits % 0x80_0000) * 256 + 0x8000_0000) >> down;
-    let ones = pick32(0x8000_0000 <= bits, u32::MAX, 0);
+    let ones = pick(0x8000_0000 <= bits, u32::MAX, 0);
     let turned = std::num::wrapping_sub_u32(part ^ ones, ones);
-    let capped = pick32(0x4F00_0000 <= size, 0x7FFF_FFFF ^ ones, turned);
-    pick32((size < 0x3F80_0000) | (0x7F80_0000 < size), OF_NAN, capped)
+    let capped = pick(0x4F00_0000 <= size, 0x7FFF_FFFF ^ ones, turned);
+    pick((size < 0x3F80_0000) | (0x7F80_0000 < size), OF_NAN, capped)
 }
 
 // Four lanes side by side.
@@ -97,9 +97,9 @@ pub fn trunc_sat_s64(bits: u64) -> u32
     if size < 0x3FF0_0000 {
         return 0;
     }
-    let end = pick32(0x8000_0000 <= high, 0x8000_0000, 0x7FFF_FFFF);
+    let end = pick(0x8000_0000 <= high, 0x8000_0000, 0x7FFF_FFFF);
     if 0x7FF0_0000 <= size {
-        return pick32(
+        return pick(
             0x7FF0_0000_0000_0000 < bits % 0x8000_0000_0000_0000,
             OF_NAN,
             end,
@@ -110,5 +110,5 @@ pub fn trunc_sat_s64(bits: u64) -> u32
     }
     let digits = bits % 0x10_0000_0000_0000 + 0x10_0000_0000_0000;
     let part = (digits >> (1075 - (size / 0x10_0000) as u64)) as u32;
-    pick32(0x8000_0000 <= high, u32::MAX - part + 1, part)
+    pick(0x8000_0000 <= high, u32::MAX - part + 1, part)
 }

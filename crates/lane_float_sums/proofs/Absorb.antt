@@ -6,7 +6,7 @@ use Prim.Native.Nat.{ℕ}
 use lib.Ieee
 use lib.Ieee.{Float, nan, inf, fin, Format, of_bits, to_bits, nan_bits}
 use Rattle.standard.proofs.Nan.{nan_read}
-use Rattle.lane_float.proofs.FloatOrder.{one_nan}
+use Rattle.lane_float_value.proofs.FloatOrder.{one_nan}
 
 -- An operation whose result is a NaN wherever one of its operands is.
 abbrev pub Absorbs : (Float → Float → Float) → Type 0

@@ -3,86 +3,46 @@
 #![tactic(auto)]
 
 ghost use Rattle.std.specs.Prelude.{◌≡◌};
-ghost use Rattle.std.specs.Float.{binary32, binary64};
 ghost use Rattle.standard.specs.Float.{fadd, fsub, fmul, fdiv};
 
-use lane_float::{ordered32, ordered64};
-use lane_float_value::*;
+use lane_float_value::{Pattern, pick};
 
-pub fn fadd32(a: u32, b: u32) -> u32
-    ensures { result ≡ fadd binary32 a b }
+pub fn fadd<P: Pattern>(a: P, b: P) -> P
+    ensures { P.bits result ≡ fadd P.format (P.bits a) (P.bits b) }
 {
-    if ordered32(a, b) {
-        pattern32(f32::from_bits(a) + f32::from_bits(b))
+    if a.ordered(b) {
+        P::of(a.number() + b.number())
     } else {
-        NAN32
+        P::nan()
     }
 }
 
-pub fn fsub32(a: u32, b: u32) -> u32
-    ensures { result ≡ fsub binary32 a b }
+pub fn fsub<P: Pattern>(a: P, b: P) -> P
+    ensures { P.bits result ≡ fsub P.format (P.bits a) (P.bits b) }
 {
-    if ordered32(a, b) {
-        pattern32(f32::from_bits(a) - f32::from_bits(b))
+    if a.ordered(b) {
+        P::of(a.number() - b.number())
     } else {
-        NAN32
+        P::nan()
     }
 }
 
-pub fn fmul32(a: u32, b: u32) -> u32
-    ensures { result ≡ fmul binary32 a b }
+pub fn fmul<P: Pattern>(a: P, b: P) -> P
+    ensures { P.bits result ≡ fmul P.format (P.bits a) (P.bits b) }
 {
-    if ordered32(a, b) {
-        pattern32(f32::from_bits(a) * f32::from_bits(b))
+    if a.ordered(b) {
+        P::of(a.number() * b.number())
     } else {
-        NAN32
+        P::nan()
     }
 }
 
-pub fn fdiv32(a: u32, b: u32) -> u32
-    ensures { result ≡ fdiv binary32 a b }
+// Of a NaN and any number zeros are taken, whose quotient is the NaN: a division that stands under an `if` is not made lane beside lane at 64 bits.
+pub fn fdiv<P: Pattern>(a: P, b: P) -> P
+    ensures { P.bits result ≡ fdiv P.format (P.bits a) (P.bits b) }
 {
-    if ordered32(a, b) {
-        pattern32(f32::from_bits(a) / f32::from_bits(b))
-    } else {
-        NAN32
-    }
-}
-
-pub fn fadd64(a: u64, b: u64) -> u64
-    ensures { result ≡ fadd binary64 a b }
-{
-    if ordered64(a, b) {
-        pattern64(f64::from_bits(a) + f64::from_bits(b))
-    } else {
-        NAN64
-    }
-}
-
-pub fn fsub64(a: u64, b: u64) -> u64
-    ensures { result ≡ fsub binary64 a b }
-{
-    if ordered64(a, b) {
-        pattern64(f64::from_bits(a) - f64::from_bits(b))
-    } else {
-        NAN64
-    }
-}
-
-pub fn fmul64(a: u64, b: u64) -> u64
-    ensures { result ≡ fmul binary64 a b }
-{
-    if ordered64(a, b) {
-        pattern64(f64::from_bits(a) * f64::from_bits(b))
-    } else {
-        NAN64
-    }
-}
-
-// Of a NaN and any number zeros are taken, whose quotient is the NaN: a division that stands under an `if` is not made lane beside lane.
-pub fn fdiv64(a: u64, b: u64) -> u64
-    ensures { result ≡ fdiv binary64 a b }
-{
-    let numbers = ordered64(a, b);
-    pattern64(f64::from_bits(pick64(numbers, a, 0)) / f64::from_bits(pick64(numbers, b, 0)))
+    let numbers = a.ordered(b);
+    let zero = P::from_u64(0);
+    let (x, y) = (pick(numbers, a, zero), pick(numbers, b, zero));
+    P::of(x.number() / y.number())
 }

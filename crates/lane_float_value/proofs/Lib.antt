@@ -1,1 +1,4 @@
+pub mod Carry
+pub mod FloatOrder
 pub mod Itself
+pub mod Together

@@ -35,7 +35,7 @@ pub fn promote(bits: u32) -> u64
         return sign + ((size as u64) * 0x2000_0000 + 0x3800_0000_0000_0000);
     }
     if 0x7F80_0000 < size {
-        return NAN64;
+        return u64::nan();
     }
     if size < 0x7F80_0000 {
         sign + quotient(size, 149)
@@ -53,5 +53,5 @@ pub fn convert_u64(n: u32) -> u64
 pub fn convert_s64(n: u32) -> u64
     ensures { result ≡ convert_s binary64 n }
 {
-    pick64(0x8000_0000 <= n, 0x8000_0000_0000_0000, 0) + convert_u64(magnitude(n))
+    pick(0x8000_0000 <= n, 0x8000_0000_0000_0000, 0) + convert_u64(magnitude(n))
 }

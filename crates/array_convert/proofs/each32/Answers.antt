@@ -6,5 +6,5 @@ use Rattle.standard.proofs.Halves.{all_elements}
 use Rattle.array_convert.proofs.each32.Goals as goal
 
 pub returns : goal.returns
-returns c = rw (c.lane32.ensures, c.lane32-2.ensures, c.lane32-3.ensures, c.lane32-4.ensures)
-    (ap (map _) (all_elements c.args.a 4 (search rules)))
+returns g c = λ h e.
+    rw (e _ _ c.f.ensures, e _ _ c.f-2.ensures, e _ _ c.f-3.ensures, e _ _ c.f-4.ensures) (ap (map h) (all_elements c.args.a 4 (search rules)))

@@ -7,4 +7,4 @@ use borrow.Author.Rules.{rules}
 use Rattle.array_convert.proofs.low.Goals as goal
 
 pub returns : goal.returns
-returns c = rw (c.wider-high.ensures, c.wider.ensures) (ap (map _) (ap low_half (all_elements c.args.a 4 (search rules))))
+returns g c = λ h e. rw (e _ _ c.f-high.ensures, e _ _ c.f.ensures) (ap (map h) (ap low_half (all_elements c.args.a 4 (search rules))))

@@ -8,6 +8,6 @@ use Rattle.standard.proofs.Halves.{all_elements}
 use Rattle.array_convert.proofs.zero.Goals as goal
 
 pub returns : goal.returns
-returns c =
-    rw (c.half.ensures, c.narrower.ensures, c.narrower-2.ensures)
-    (ap (λ (h : ℕ). h ∷ 0 ∷ []) (ap (joined 32) (ap (map _) (all_elements c.args.a 2 (search rules)))))
+returns g c = λ h e.
+    rw (c.half.ensures, e _ _ c.f.ensures, e _ _ c.f-2.ensures)
+    (ap (λ (n : ℕ). n ∷ 0 ∷ []) (ap (joined 32) (ap (map h) (all_elements c.args.a 2 (search rules)))))

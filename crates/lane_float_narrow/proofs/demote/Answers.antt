@@ -6,7 +6,7 @@ use native.Mathlib.Nat.{le_trans, le_of_eq, lt_of_le_of_lt, le_of_suc-le-suc}
 use native.Mathlib.Omega.{arith}
 use borrow.Author.Tests.{ltb-true, ltb-false}
 use lib.Dec.{ltb, leb, lit≤, lit<}
-use lib.Ieee.{binary32, binary64, to_bits}
+use lib.Ieee.{binary32, binary64, nan, to_bits}
 use lib.Ieee.Nearest.{closest}
 use Rattle.standard.specs.Convert.{demote}
 use Rattle.lane_float_pattern.proofs.Rounding.{sign_fits}
@@ -26,14 +26,14 @@ some : (x : ℕ) → 863 ≤ x → 0 < x
 some x h = omega arith
 
 -- a field of ones: a NaN, or an infinity
-ones_field : (b : ℕ) → b < 2 ^ 64 → 2146435072 ≤ upper b → cond (ltb 9218868437227405312 (b % 9223372036854775808)) 2143289344 (sign b + 2139095040) ≡ demote b
-unfolding to_bits
+ones_field : (b : ℕ) → b < 2 ^ 64 → 2146435072 ≤ upper b
+    → cond (ltb 9218868437227405312 (b % 9223372036854775808)) (to_bits binary32 nan) (sign b + 2139095040) ≡ demote b
 ones_field b h k = pick (ltb 9218868437227405312 (b % 9223372036854775808)) refl
   where
     past : (x : ℕ) → 2047 ≤ x → 1150 < x
     past x g = omega arith
 
-    pick : (t : Bool) → ltb 9218868437227405312 (b % 9223372036854775808) ≡ t → cond t 2143289344 (sign b + 2139095040) ≡ demote b
+    pick : (t : Bool) → ltb 9218868437227405312 (b % 9223372036854775808) ≡ t → cond t (to_bits binary32 nan) (sign b + 2139095040) ≡ demote b
     pick true e = of_nan binary64 binary32 b (ltb-true _ _ e)
     pick false e = ap (λ (s : ℕ). s + 2139095040) (sign_is b h) ∙ above b (past _ (from 2047 b k)) (ltb-false _ _ e)
 
@@ -42,7 +42,9 @@ returns-then-size-lt904921088 c = sign_is c.args.bits c.ranges.bits.fits
     ∙ far_below c.args.bits (under 863 c.args.bits c.if-size-lt904921088.true)
 
 pub returns-then-size-ge2146435072 : goal.returns-then-size-ge2146435072
-returns-then-size-ge2146435072 c = c.pick32.ensures ∙ ones_field c.args.bits c.ranges.bits.fits c.if-size-ge2146435072.true
+returns-then-size-ge2146435072 c =
+    c.pick.ensures ∙ ap (λ (n : ℕ). cond (ltb 9218868437227405312 (c.args.bits % 9223372036854775808)) n (sign c.args.bits + 2139095040)) c.nan.ensures
+    ∙ ones_field c.args.bits c.ranges.bits.fits c.if-size-ge2146435072.true
 
 pub returns-then-size-ge1206910976 : goal.returns-then-size-ge1206910976
 returns-then-size-ge1206910976 c =

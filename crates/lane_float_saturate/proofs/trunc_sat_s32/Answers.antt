@@ -6,6 +6,6 @@ use Rattle.lane_float_saturate.proofs.trunc_sat_s32.Goals as goal
 pub returns : goal.returns
 returns c =
     let b = c.args.bits in
-    c.pick32.ensures ∙ ap (λ (w : ℕ). cond (ltb (b % 2147483648) 1065353216 || ltb 2139095040 (b % 2147483648)) 0 w) c.pick32-capped.ensures
-    ∙ signed b c.ranges.bits.fits c.pick32-ones.ensures (search rules)
+    c.pick.ensures ∙ ap (λ (w : ℕ). cond (ltb (b % 2147483648) 1065353216 || ltb 2139095040 (b % 2147483648)) 0 w) c.pick-capped.ensures
+    ∙ signed b c.ranges.bits.fits c.pick-ones.ensures (search rules)
     c.wrapping_sub_u32-turned.ensures.value

@@ -11,10 +11,10 @@ pub returns-then-size-lt1072693248 : goal.returns-then-size-lt1072693248
 returns-then-size-lt1072693248 c = nothing binary64 c.args.bits (sym (part_small binary64 c.args.bits (under 1023 c.args.bits c.if-size-lt1072693248.true)))
 
 pub returns-then-size-ge2146435072 : goal.returns-then-size-ge2146435072
-returns-then-size-ge2146435072 c = c.pick32.ensures ∙ ones_field c.args.bits c.pick32-end.ensures c.if-size-ge2146435072.true
+returns-then-size-ge2146435072 c = c.pick.ensures ∙ ones_field c.args.bits c.pick-end.ensures c.if-size-ge2146435072.true
 
 pub returns-then-size-ge1105199104 : goal.returns-then-size-ge1105199104
-returns-then-size-ge1105199104 c = at_end c.args.bits c.pick32-end.ensures
+returns-then-size-ge1105199104 c = at_end c.args.bits c.pick-end.ensures
     (finite c.args.bits c.if-size-ge2146435072.false) (from 1054 c.args.bits c.if-size-ge1105199104.true)
 
 -- what the shift leaves
@@ -50,5 +50,5 @@ pub overflow_add-part : goal.overflow_add-part
 overflow_add-part c = record { fits = room _ (some c) }
 
 pub returns : goal.returns
-returns c = c.pick32-2.ensures ∙ with_sign c.args.bits (field_from c.before) (field_under c.before)
+returns c = c.pick-2.ensures ∙ with_sign c.args.bits (field_from c.before) (field_under c.before)
     (part_is c.args.bits (field_from c.before) (field_under c.before))

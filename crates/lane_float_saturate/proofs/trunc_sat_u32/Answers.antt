@@ -6,5 +6,5 @@ use Rattle.lane_float_saturate.proofs.trunc_sat_u32.Goals as goal
 pub returns : goal.returns
 returns c =
     let b = c.args.bits in
-    c.pick32.ensures ∙ ap (λ (w : ℕ). cond (ltb b 1065353216 || ltb 2139095040 b) 0 w) c.pick32-capped.ensures
+    c.pick.ensures ∙ ap (λ (w : ℕ). cond (ltb b 1065353216 || ltb 2139095040 b) 0 w) c.pick-capped.ensures
     ∙ unsigned b c.ranges.bits.fits

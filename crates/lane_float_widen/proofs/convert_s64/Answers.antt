@@ -9,10 +9,10 @@ use Rattle.lane_float_widen.proofs.convert_s64.Goals as goal
 
 pub overflow_add-result : goal.overflow_add-result
 overflow_add-result c = record {
-  fits = lt_of_le_of_lt (le_of_eq (ap₂ ◌+◌ c.pick64.ensures c.convert_u64.ensures))
+  fits = lt_of_le_of_lt (le_of_eq (ap₂ ◌+◌ c.pick.ensures c.convert_u64.ensures))
       (lane_fits c.args.n binary64 c.magnitude.result);
 }
 
 pub returns : goal.returns
-returns c = ap₂ ◌+◌ c.pick64.ensures (c.convert_u64.ensures ∙ ap (convert_u binary64) c.magnitude.ensures)
+returns c = ap₂ ◌+◌ c.pick.ensures (c.convert_u64.ensures ∙ ap (convert_u binary64) c.magnitude.ensures)
     ∙ signed_lane c.args.n binary64 c.ranges.n.fits

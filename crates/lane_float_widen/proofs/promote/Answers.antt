@@ -43,7 +43,7 @@ returns-then-bits-gt1 c =
 
 pub returns-then-size-gt2139095040 : goal.returns-then-size-gt2139095040
 unfolding to_bits
-returns-then-size-gt2139095040 c = of_nan binary32 binary64 c.args.bits c.if-size-gt2139095040.true
+returns-then-size-gt2139095040 c = c.nan.ensures ∙ of_nan binary32 binary64 c.args.bits c.if-size-gt2139095040.true
 
 pub overflow_add-result-then-size-lt2139095040 : goal.overflow_add-result-then-size-lt2139095040
 overflow_add-result-then-size-lt2139095040 c =

@@ -1,8 +1,0 @@
--- `lane_float::is_nan64` meets its contract. Assumes nothing.
-use mathlib.Core.Path.{sym}
-use lib.Ieee.{binary64}
-use lib.Ieee.Bits.{nan_bits_above}
-use Rattle.lane_float.proofs.is_nan64.Goals as goal
-
-pub returns : goal.returns
-returns c = sym (nan_bits_above binary64 _)
