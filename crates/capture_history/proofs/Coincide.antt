@@ -12,7 +12,7 @@ use Rattle.capture_meetings.specs.Meetings.{Meeting, met, all_from}
 use Rattle.capture_meetings.proofs.Laws.{parts}
 use Rattle.capture_history.specs.State.{place, given, Told}
 use Rattle.capture_history.specs.declared.Scan.{Scan}
-use Rattle.capture_history.specs.declared.Next.{Next}
+use Rattle.capture_history.proofs.Standing.{meets, ends}
 
 same_next : (xs : List Meeting) (a b : Meeting) (ys : List Meeting) → xs ++ (a ∷ []) ≡ (xs ++ (b ∷ [])) ++ ys → a ≡ b
 same_next [] a b ys h = cc
@@ -27,7 +27,7 @@ module _ (m t L : ℕ) (X : List ℕ) where
 
   module _ (window : List ℕ) (s : Scan) where
     -- two meetings
-    pub meetings_coincide : (p d e p' d' e' : ℕ) (r q : Scan) → Told m t L X window s (Next.Met p d e r) → Told m t L X window s (Next.Met p' d' e' q)
+    pub meetings_coincide : (p d e p' d' e' : ℕ) (r q : Scan) → Told m t L X window s (meets p d e r) → Told m t L X window s (meets p' d' e' q)
         → met p d e ≡ met p' d' e'
     meetings_coincide p d e p' d' e' r q one two = by (ltb (place r) (place q)) refl
       where
@@ -42,9 +42,9 @@ module _ (m t L : ℕ) (X : List ℕ) where
             (sym one.1 ∙ grows q r (ltb-false (place r) (place q) h) ∙ ap (λ (z : List Meeting). z ++ more) two.1)
 
     -- a meeting, and that there is none
-    pub never_both : (p d e : ℕ) (r q : Scan) → Told m t L X window s (Next.Met p d e r) → Told m t L X window s (Next.More q) → ⊥
+    pub never_both : (p d e : ℕ) (r q : Scan) → Told m t L X window s (meets p d e r) → Told m t L X window s (ends q) → ⊥
     never_both p d e r q one two =
-        let before : place r ≤ place q = omega (arith, one.0.reached, two.3) in
-        let most = ap length (sym two.1 ∙ grows r q before
+        let before : place r ≤ place q = omega (arith, one.0.reached, two.1.2) in
+        let most = ap length (sym two.1.0 ∙ grows r q before
         ∙ ap (λ (z : List Meeting). z ++ all_from (bits X) (marker_bits m) t L (place q - place r) (0 + place r)) one.1) in
         omega (arith, simp length-append at most)

@@ -8,9 +8,8 @@ use Rattle.finder_windows.specs.Definition.{bits, marker_bits}
 use Rattle.capture_meetings.specs.Meetings.{Meeting, met, all_from, meetings}
 use Rattle.capture_history.specs.State.{place, Stands, given, Told, Taken}
 use Rattle.capture_history.specs.declared.Scan.{Scan}
-use Rattle.capture_history.specs.declared.Next.{Next}
 use Rattle.capture_history.specs.declared.Fed.{Fed}
-use Rattle.capture_history.proofs.Standing.{grown}
+use Rattle.capture_history.proofs.Standing.{meets, ends, grown}
 
 -- The capture that has come, the window, the state, and the meetings that were given, after any calls: each step has what the function's contract ensures.
 pub data Session (m t L : ℕ) : List ℕ → List ℕ → Scan → List Meeting → Type 0 where
@@ -18,9 +17,9 @@ pub data Session (m t L : ℕ) : List ℕ → List ℕ → Scan → List Meeting
   fed : (X window after piece : List ℕ) (s : Scan) (r : Fed) (G : List Meeting)
       → Session m t L X window s G → Taken L X piece after s r → Session m t L (X ++ take r.used piece) after r.scan G
   found : (X window : List ℕ) (s r : Scan) (p d e : ℕ) (G : List Meeting)
-      → Session m t L X window s G → Told m t L X window s (Next.Met p d e r) → Session m t L X window r (G ++ (met p d e ∷ []))
+      → Session m t L X window s G → Told m t L X window s (meets p d e r) → Session m t L X window r (G ++ (met p d e ∷ []))
   searched : (X window : List ℕ) (s r : Scan) (G : List Meeting)
-      → Session m t L X window s G → Told m t L X window s (Next.More r) → Session m t L X window r G
+      → Session m t L X window s G → Told m t L X window s (ends r) → Session m t L X window r G
 
 module _ (m t L : ℕ) where
   pub so_far : (X window : List ℕ) (s : Scan) (G : List Meeting) → Session m t L X window s G → (Stands L X window s) × (G ≡ given m t L X s)
@@ -39,9 +38,9 @@ module _ (m t L : ℕ) where
       (told.0, ap (λ (l : List Meeting). l ++ (met p d e ∷ [])) before.1 ∙ sym told.1)
   so_far X window s G (searched Y w z r H past told) =
       let before = so_far Y w z H past in
-      (told.0, before.1 ∙ sym told.1)
+      (told.0, before.1 ∙ sym told.1.0)
 
   -- Where nothing more is met, every meeting of what has come has been given, in order and each once, however it was cut.
-  pub whole : (X window : List ℕ) (s r : Scan) (G : List Meeting) → Session m t L X window s G → Told m t L X window s (Next.More r)
+  pub whole : (X window : List ℕ) (s r : Scan) (G : List Meeting) → Session m t L X window s G → Told m t L X window s (ends r)
       → G ≡ meetings (bits X) (marker_bits m) t L
-  whole X window s r G past told = (so_far X window s G past).1 ∙ sym told.1 ∙ told.2
+  whole X window s r G past told = (so_far X window s G past).1 ∙ sym told.1.0 ∙ told.1.1

@@ -1,20 +1,28 @@
 -- What a window and its three numbers stand for, from one call to the next. Assumes nothing.
 use mathlib.Core.Path.{◌≡◌, refl, sym, ap, ◌∙◌}
 use mathlib.Core.Bool.{Bool, true, false}
-use mathlib.Core.List.{List, [], ◌∷◌, ◌++◌, append-nil}
+use mathlib.Core.List.{List, [], ◌∷◌, ◌++◌, append_assoc, append-nil}
 use Prim.Native.Nat.{ℕ, zero, suc, ◌+◌, ◌-◌, ◌*◌, ◌/◌, ◌%◌, ◌<◌, ◌≤◌, zero-le}
 use native.Mathlib.Nat.{zero-add}
 use native.Mathlib.Omega.{arith}
-use lib.ListN.{length, take, drop, get_or, length-append, length-drop, take-append-drop}
-use lib.Seq.{drop_at, drop-drop, length-take-le, take_at, drop-append-le, paste, take-paste, length-paste, get_or-append-add, get_or-drop}
+use lib.ListN.{length, take, drop, length-append, length-drop, take-append-drop}
+use lib.Seq.{drop_at, drop-drop, length-take-le, take_at, drop-append-le, paste, take-paste, length-paste}
 use Rattle.finder_windows.specs.Definition.{bits, marker_bits, window, distance, found, refused, stands, first_from}
 use Rattle.finder_windows.proofs.Bits.{bits_append, length_bits}
 use Rattle.capture_meetings.specs.Meetings.{Meeting, met, all_from, places, meetings, shift, first_of}
 use Rattle.capture_history.specs.State.{place, Stands, given, Told, Kept}
 use Rattle.capture_history.specs.declared.Scan.{Scan}
 use Rattle.capture_history.specs.declared.Next.{Next}
+use Rattle.std.specs.Prelude.{Some, None}
 use Rattle.capture_meetings.proofs.Laws.{shift_zero, window_before, window_after, parts, agree}
 use Rattle.capture_meetings.proofs.Theorems.{first_is}
+
+-- what `seek` answers: a meeting, or none
+abbrev pub meets : ℕ → ℕ → ℕ → Scan → Next
+meets p d e r = record { meeting = Some (record { position = p; first = d; second = e }); scan = r }
+
+abbrev pub ends : Scan → Next
+ends r = record { meeting = None; scan = r }
 
 -- the bits of what is left of some bytes
 pub bits_drop : (xs : List ℕ) (n : ℕ) → n ≤ length xs → bits (drop n xs) ≡ drop (8 * n) (bits xs)
@@ -102,7 +110,7 @@ module _ (m t L : ℕ) (X window : List ℕ) (s : Scan) (h : Stands L X window s
 
   pub told_met : (n q d e : ℕ) → n ≡ 8 * s.filled - (L + 31) - s.from → first_from (bits (take s.filled window)) (marker_bits m) t L n s.from
       ≡ found q d e
-      → Told m t L X window s (Next.Met (8 * s.before + q) d e (record { before = s.before; filled = s.filled; from = q + 1 }))
+      → Told m t L X window s (meets (8 * s.before + q) d e (record { before = s.before; filled = s.filled; from = q + 1 }))
   told_met n q d e count f =
       let all = h.all in
       let head = head_of (marker_bits m) t L (bits (take s.filled window)) n s.from q d e f in (
@@ -119,32 +127,30 @@ module _ (m t L : ℕ) (X window : List ℕ) (s : Scan) (h : Stands L X window s
 
   pub told_more : (n k : ℕ) → n ≡ 8 * s.filled - (L + 31) - s.from → s.from + (L + 31) ≤ 8 * s.filled
       → first_from (bits (take s.filled window)) (marker_bits m) t L n s.from ≡ refused k
-      → Told m t L X window s (Next.More (record { before = s.before; filled = s.filled; from = 8 * s.filled - (L + 31) }))
+      → Told m t L X window s (ends (record { before = s.before; filled = s.filled; from = 8 * s.filled - (L + 31) }))
   told_more n k count l f =
       let all = h.all in
       let r : Scan = record { before = s.before; filled = s.filled; from = 8 * s.filled - (L + 31) } in (
         record { frame = h.frame; inside = h.inside; all = h.all; few = h.few; tail = h.tail; reached = omega (arith, h.reached) },
-        none_more (marker_bits m) t L X (take s.filled window) s.before s.from (omega arith) h.tail k (8 * s.filled - (L + 31)) (omega arith)
-            (rw count at f),
-        complete r (omega arith),
-        omega arith,
+        (
+          none_more (marker_bits m) t L X (take s.filled window) s.before s.from (omega arith) h.tail k (8 * s.filled - (L + 31)) (omega arith)
+              (rw count at f),
+          complete r (omega arith),
+          omega arith,
+        ),
       )
 
-  pub told_end : 8 * s.filled < L + 31 → Told m t L X window s (Next.More s)
+  pub told_end : 8 * s.filled < L + 31 → Told m t L X window s (ends s)
   told_end l =
       let all = h.all in
       let none : place s ≡ places L (8 * length X) = omega (arith, h.reached) in
-      (h, refl, complete s none, none)
+      (h, (refl, complete s none, none))
 
 -- ---- the window moved, and filled
 
--- a move to the start reads what is not written over yet
-pub slide_reads : (w : List ℕ) (by i : ℕ) → i ≤ length (drop by w) → get_or (paste w 0 (drop by w) i) (by + i) 0 ≡ get_or (drop by w) i 0
-slide_reads w by i h =
-    let n : by + i ≡ length (take i (drop by w)) + by = omega (arith, length-take-le i (drop by w) h) in
-    let k : 0 + i + by ≡ by + i = omega arith in
-    ap (λ (j : ℕ). get_or (paste w 0 (drop by w) i) j 0) n ∙ get_or-append-add (take i (drop by w)) (drop (0 + i) w) by 0 ∙ get_or-drop (0 + i) w by 0
-    ∙ ap (λ (j : ℕ). get_or w j 0) k ∙ sym (get_or-drop by w i 0)
+-- a part written over by another list's start
+pub written_over : (w s : List ℕ) (at n : ℕ) → take at w ++ (take n s ++ drop n (drop at w)) ≡ paste w at s n
+written_over w s at n = rw (drop-drop n at w) (sym (append_assoc (take at w) (take n s) (drop (at + n) w)))
 
 -- a part of a list's start
 take_drop : (w : List ℕ) (by n : ℕ) → by ≤ n → n ≤ length w → take (n - by) (drop by w) ≡ drop by (take n w)

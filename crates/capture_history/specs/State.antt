@@ -1,8 +1,9 @@
 -- What a window and three numbers stand for: a capture, as far as it has come and as far as it has been searched.
-use Rattle.std.specs.Prelude.{ℕ, ◌+◌, ◌*◌, ◌/◌, ◌<◌, ◌≤◌, ◌≡◌, List, [], ◌∷◌, ◌++◌, length, take, drop}
+use Rattle.std.specs.Prelude.{ℕ, ◌+◌, ◌*◌, ◌/◌, ◌<◌, ◌≤◌, ◌≡◌, Option, Some, None, List, [], ◌∷◌, ◌++◌, length, take, drop}
 use Rattle.finder_windows.specs.Definition.{bits, marker_bits}
 use Rattle.capture_meetings.specs.Meetings.{Meeting, met, all_from, places, meetings}
 use Rattle.capture_history.specs.declared.Scan.{Scan}
+use Rattle.capture_history.specs.declared.Meeting as declared
 use Rattle.capture_history.specs.declared.Next.{Next}
 use Rattle.capture_history.specs.declared.Fed.{Fed}
 
@@ -24,11 +25,13 @@ abbrev pub given : ℕ → ℕ → ℕ → List ℕ → Scan → List Meeting
 given m t L X s = all_from (bits X) (marker_bits m) t L (place s) 0
 
 -- A meeting: it is the next after what has been given. None: what has been given is every meeting of what has come, and no position is left.
+abbrev pub Gives : ℕ → ℕ → ℕ → List ℕ → Scan → Option declared.Meeting → Scan → Type 0
+Gives m t L X s (Some found) r = given m t L X r ≡ given m t L X s ++ (met found.position found.first found.second ∷ [])
+Gives m t L X s None r =
+    (given m t L X r ≡ given m t L X s) × (given m t L X r ≡ meetings (bits X) (marker_bits m) t L) × (place r ≡ places L (8 * length X))
+
 abbrev pub Told : ℕ → ℕ → ℕ → List ℕ → List ℕ → Scan → Next → Type 0
-Told m t L X window s (Next.Met p d e r) = (Stands L X window r) × (given m t L X r ≡ given m t L X s ++ (met p d e ∷ []))
-Told m t L X window s (Next.More r) =
-    (Stands L X window r) × (given m t L X r ≡ given m t L X s) × (given m t L X r ≡ meetings (bits X) (marker_bits m) t L)
-    × (place r ≡ places L (8 * length X))
+Told m t L X window s next = (Stands L X window next.scan) × Gives m t L X s next.meeting next.scan
 
 -- the same capture in another window
 pub record Kept (L : ℕ) (X window : List ℕ) (s r : Scan) : Type 0 where

@@ -7,8 +7,13 @@ use mathlib.Core.List.{List, ◌++◌, map}
 use Prim.Native.Nat.{ℕ, zero, suc, ◌+◌, ◌%◌, ◌<◌, ◌≤◌}
 use native.Mathlib.Omega.{arith}
 use lib.ListN.{length, get_or, drop, drop_of_length-le}
+use borrow.Author.Rules.{rules}
+use Rattle.std.specs.Prelude.{Result, Ok, Err, IsErr}
 use Rattle.standard.specs.Lanes.{joined, lanes}
 use Rattle.standard.specs.Vector.{shuffle}
+use Rattle.standard_refusal.specs.declared.Refusal.{Refusal}
+use Rattle.standard_refusal.specs.Number.{number_of, code_of}
+use Rattle.standard_refusal.proofs.Numbers.{not_0}
 use Rattle.standard.proofs.Digits.{Below, lanes_joined}
 use Rattle.standard.proofs.Rearrange.{shuffle_is}
 use Rattle.chain.specs.Definition.{indices, partner, chained, all_legal, counted, low_places, high_places, folded, left}
@@ -55,6 +60,10 @@ module _ (links : List (List ℕ)) (k : ℕ) (current : List ℕ) (f : Folding l
       sym bytes ∙ ap (λ (rest : List (List ℕ)). lanes 8 (chained rest low_places high_places (joined 8 current))) (sym (drop_of_length-le links over)) ∙ f.1.1
 
 -- a refused call leaves what stood there
-pub kept : (r : ℕ) (is before : List ℕ) → (r ≡ 0 → ⊥) → before ≡ left r is before
-kept zero is before refused = absurd (refused refl)
-kept (suc r) is before refused = refl
+pub kept : {A : Type 0} (r : Result A Refusal) (is before : List ℕ) → IsErr r → before ≡ left (code_of r) is before
+kept (Ok x) is before e = absurd (search rules)
+kept (Err q) is before e = by (number_of q) (not_0 q)
+  where
+    by : (n : ℕ) → (n ≡ 0 → ⊥) → before ≡ left n is before
+    by zero refused = absurd (refused refl)
+    by (suc n) refused = refl

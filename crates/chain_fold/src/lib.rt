@@ -1,11 +1,13 @@
 // A chain of shuffles folded into one list of sixteen indices (document 02, order 13).
 #![tactic(auto)]
 
-ghost use Rattle.std.specs.Prelude.{◌≡◌, ◌++◌, map, ◌%◌, length, get_or};
+ghost use Rattle.std.specs.Prelude.{◌≡◌, ◌++◌, map, ◌%◌, length, get_or, OnOk};
+ghost use Rattle.standard_refusal.specs.Number.{code_of};
 ghost use Rattle.chain.specs.Definition.{indices, partner, refusal, counted, folded, left, OneShuffle};
 
 use array_reorder::{beside, picked};
 use chain::{indices_of, judge};
+use standard_refusal::Refusal;
 
 // The indices of a, of the vector that the chain starts from, and of b.
 const OF_A: [u8; 16] = [0, 1, 2, 3, 4, 5, 6, 7, 8, 9, 10, 11, 12, 13, 14, 15];
@@ -36,21 +38,18 @@ fn linked(current: [u8; 16], link: [u8; 17]) -> [u8; 16]
     )
 }
 
-// 0, and the folded indices are written to `out`, by which one shuffle is the chain; or the number of the refusal, and nothing is written.
-pub fn fold(links: &[[u8; 17]], out: &mut [u8; 16]) -> u8
-    ensures value { result ≡ refusal links.now }
-    ensures out_after { out.new ≡ left result (folded links.now) out.old }
-    ensures one_shuffle { result ≡ 0 → OneShuffle links.now out.new }
+// The folded indices are written to `out`, by which one shuffle is the chain; where the chain is refused nothing is written.
+pub fn fold(links: &[[u8; 17]], out: &mut [u8; 16]) -> Result<(), Refusal>
+    ensures value { code_of result ≡ refusal links.now }
+    ensures out_after { out.new ≡ left (code_of result) (folded links.now) out.old }
+    ensures one_shuffle { OnOk result (OneShuffle links.now out.new) }
 {
-    let refused = judge(links);
-    if refused != 0 {
-        return refused;
-    }
+    judge(links)?;
     let mut current = OF_A;
-    for k in 0..links.len() {
-        let next = linked(current, links[k]);
+    for link in links {
+        let next = linked(current, *link);
         current = next;
     }
     *out = current;
-    0
+    Ok(())
 }

@@ -1,6 +1,7 @@
 // An answer before its memory: the refusal number, what the result is, and the result. What a result does not use is zero.
 use crate::layout::*;
 use calculator_rules::shape::Kind;
+use lane_float::{F32, F64};
 use lane_integer::reinterpret::{unsigned32, unsigned64};
 use memory_access::PAST;
 use memory_loads::LoadAnswer;

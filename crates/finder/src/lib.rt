@@ -2,13 +2,18 @@
 // is told is the count of ones of an exclusive-or of two words; columns only pass over what is far.
 #![tactic(auto)]
 
-ghost use Rattle.std.specs.Prelude.{ℕ, suc, ◌+◌, ◌*◌, ◌-◌, ◌<◌, ◌≤◌, min, ◌≡◌, false, length, take, drop};
+ghost use Rattle.std.specs.Prelude.{ℕ, suc, ◌+◌, ◌*◌, ◌-◌, ◌<◌, ◌≤◌, ◌≡◌, false, length, take, drop};
 ghost use Rattle.std.proofs.Math.ListN as List;
 ghost use Rattle.finder_windows.specs.Definition.{binary, bits, marker_bits, window, distance, first_from, find};
-ghost use Rattle.finder_windows.specs.Answer.{answer_of};
+ghost use Rattle.finder_windows.specs.Answer.{answer_of, met_or_none};
 ghost use Rattle.finder_columns.specs.Columns.{Columns};
+ghost use Rattle.finder.specs.Search.{first_among};
 
-pub use finder_windows::Answer;
+mod sought;
+
+pub use finder_windows::Found;
+use sought::Search;
+use standard_refusal::Refusal;
 
 // How many positions are searched by words before columns are made, which costs as much as 700 of them: a short buffer, or a match that stands early, waits for
 // none.
@@ -38,230 +43,183 @@ fn apart(word: u64, k: usize, marker: u32) -> u32
     finder_windows::apart(seen, marker)
 }
 
-// Whether any of the first 32 windows of a word is within the tolerance. A turn decides nothing, so the compiler takes four at once. Only `false` is a
-// promise: a word that is looked at for nothing costs time and no answer.
-fn near(word: u64, marker: u32, tolerance: u32) -> bool
-    ensures { result ≡ false → (k : ℕ) → k < 32 → tolerance < distance (window (binary 64 word) k) (marker_bits marker) }
-{
-    let mut any = false;
-    for k in 0..32 {
-        any = any | (apart(word, k, marker) <= tolerance);
-    }
-    any
-}
-
-// The search among the first positions of a byte and the next, one by one, but for some that are skipped. The windows a frame later stand in one word, too: the
-// one that ends where the last of them ends.
-fn among(
-    buffer: &[u8],
-    at: usize,
-    skip: usize,
-    count: usize,
-    marker: u32,
-    tolerance: u32,
-    frame: usize,
-) -> Answer
-    requires le_frame { 64 ≤ frame }
-    requires skip_le_count { skip ≤ count }
-    requires count_bound { count ≤ 16 }
-    requires frame_bound { 8 * at + count + frame + 31 ≤ 8 * length buffer.now }
-    requires buffer_len_bound { length buffer.now ≤ 1152921504606846976 }
-    ensures { answer_of result ≡ first_from (bits buffer.now) (marker_bits marker) tolerance frame (count - skip) (8 * at + skip) }
-{
-    let here = word_at(buffer, at);
-    let end = (8 * at + count + frame + 30) / 8;
-    let later = word_at(buffer, end - 7);
-    let start = 8 * at + frame + 56 - 8 * end;
-    for k in skip..count {
-        let first = apart(here, k, marker);
-        if first <= tolerance {
-            let second = apart(later, start + k, marker);
-            let answer = finder_windows::judged(8 * at + k, first, second, tolerance);
-            let Answer::Refused(_) = answer else {
-                return answer;
-            };
+impl<'a> Search<'a> {
+    // Whether any of the first 32 windows of a word is within the tolerance. A turn decides nothing, so the compiler takes four at once. Only `false` is a
+    // promise: a word that is looked at for nothing costs time and no answer.
+    fn near(&self, word: u64) -> bool
+        ensures { result ≡ false → (k : ℕ) → k < 32 → self.now.tolerance < distance (window (binary 64 word) k) (marker_bits self.now.marker) }
+    {
+        let mut any = false;
+        for k in 0..32 {
+            any = any | (apart(word, k, self.marker) <= self.tolerance);
         }
+        any
     }
-    Answer::Refused(finder_windows::NONE)
-}
 
-// The search among positions from a byte on, sixteen at a time.
-fn through(
-    buffer: &[u8],
-    from: usize,
-    count: usize,
-    marker: u32,
-    tolerance: u32,
-    frame: usize,
-) -> Answer
-    requires le_frame { 64 ≤ frame }
-    requires frame_bound { 8 * from + count + frame + 31 ≤ 8 * length buffer.now }
-    requires buffer_len_bound { length buffer.now ≤ 1152921504606846976 }
-    ensures { answer_of result ≡ first_from (bits buffer.now) (marker_bits marker) tolerance frame count (8 * from) }
-{
-    let mut at = from;
-    let mut left = count;
-    while left > 16 {
-        let answer = among(buffer, at, 0, 16, marker, tolerance, frame);
-        let Answer::Refused(_) = answer else {
-            return answer;
-        };
-        at += 2;
-        left -= 16;
-    }
-    among(buffer, at, 0, left, marker, tolerance, frame)
-}
-
-// The search among the first positions of a buffer. A word with no window within the tolerance is passed over.
-fn by_words(buffer: &[u8], count: usize, marker: u32, tolerance: u32, frame: usize) -> Answer
-    requires le_frame { 64 ≤ frame }
-    requires frame_bound { count + frame + 31 ≤ 8 * length buffer.now }
-    requires buffer_len_bound { length buffer.now ≤ 1152921504606846976 }
-    ensures { answer_of result ≡ first_from (bits buffer.now) (marker_bits marker) tolerance frame count 0 }
-{
-    let mut at = 0;
-    let mut left = count;
-    while left >= 32 {
-        if near(word_at(buffer, at), marker, tolerance) {
-            let answer = through(buffer, at, 32, marker, tolerance, frame);
-            let Answer::Refused(_) = answer else {
-                return answer;
-            };
+    // The search among the first positions of a byte and the next, one by one, but for some that are skipped. The windows a frame later stand in one word, too:
+    // the one that ends where the last of them ends.
+    fn among(&self, at: usize, skip: usize, count: usize) -> Option<Found>
+        requires skip_le_count { skip ≤ count }
+        requires count_bound { count ≤ 16 }
+        requires inside { 8 * at + count + self.now.frame + 31 ≤ 8 * length self.now.buffer.now }
+        ensures { met_or_none result ≡ first_among self.now (count - skip) (8 * at + skip) }
+    {
+        let here = word_at(self.buffer, at);
+        let end = (8 * at + count + self.frame + 30) / 8;
+        let later = word_at(self.buffer, end - 7);
+        let start = 8 * at + self.frame + 56 - 8 * end;
+        for k in skip..count {
+            let first = apart(here, k, self.marker);
+            if first <= self.tolerance {
+                let second = apart(later, start + k, self.marker);
+                let found = finder_windows::judged(8 * at + k, first, second, self.tolerance);
+                if found.is_some() {
+                    return found;
+                }
+            }
         }
-        at += 4;
-        left -= 32;
+        None
     }
-    through(buffer, at, left, marker, tolerance, frame)
-}
 
-// The search among positions from a byte on. A byte with no window within the tolerance is passed over. The columns go forward: a table that is none ends it.
-fn by_columns<'a>(
-    buffer: &'a [u8],
-    from: usize,
-    count: usize,
-    table: &'a [u64; 1280],
-    marker: u32,
-    tolerance: u32,
-    frame: usize,
-) -> Answer
-    requires le_frame { 64 ≤ frame }
-    requires frame_bound { 8 * from + count + frame + 31 ≤ 8 * length buffer.now }
-    requires buffer_len_bound { length buffer.now ≤ 1152921504606846976 }
-    ensures { Columns marker tolerance table.now → answer_of result ≡ first_from (bits buffer.now) (marker_bits marker) tolerance frame count (8 * from) }
-{
-    let end = from + count / 8;
-    let mut at = finder_passing::next(buffer, from, end, table);
-    while at < end {
-        let answer = among(buffer, at, 0, 8, marker, tolerance, frame);
-        let Answer::Refused(_) = answer else {
-            return answer;
-        };
-        let later = finder_passing::next(buffer, at + 1, end, table);
-        if later <= at {
-            return Answer::Refused(finder_windows::NONE);
+    // The search among positions from a byte on, sixteen at a time.
+    fn through(&self, from: usize, count: usize) -> Option<Found>
+        requires { 8 * from + count + self.now.frame + 31 ≤ 8 * length self.now.buffer.now }
+        ensures { met_or_none result ≡ first_among self.now count (8 * from) }
+    {
+        let mut at = from;
+        let mut left = count;
+        while left > 16 {
+            let found = self.among(at, 0, 16);
+            if found.is_some() {
+                return found;
+            }
+            at += 2;
+            left -= 16;
         }
-        at = later;
+        self.among(at, 0, left)
     }
-    among(buffer, end, 0, count % 8, marker, tolerance, frame)
-}
 
-// The one position of a buffer that has no more bits than a frame and a marker.
-fn only(buffer: &[u8], marker: u32, tolerance: u32, frame: usize) -> Answer
-    requires le_frame { 64 ≤ frame }
-    requires buffer_value { 8 * length buffer.now ≡ frame + 32 }
-    ensures { answer_of result ≡ first_from (bits buffer.now) (marker_bits marker) tolerance frame 1 0 }
-{
-    let first = apart(word_at(buffer, 0), 0, marker);
-    if first > tolerance {
-        return Answer::Refused(finder_windows::NONE);
+    // The search among the first positions of a buffer. A word with no window within the tolerance is passed over.
+    fn by_words(&self, count: usize) -> Option<Found>
+        requires { count + self.now.frame + 31 ≤ 8 * length self.now.buffer.now }
+        ensures { met_or_none result ≡ first_among self.now count 0 }
+    {
+        let mut at = 0;
+        let mut left = count;
+        while left >= 32 {
+            if self.near(word_at(self.buffer, at)) {
+                let found = self.through(at, 32);
+                if found.is_some() {
+                    return found;
+                }
+            }
+            at += 4;
+            left -= 32;
+        }
+        self.through(at, left)
     }
-    let second = apart(word_at(buffer, buffer.len() - 8), 32, marker);
-    finder_windows::judged(0, first, second, tolerance)
-}
 
-// The positions that are searched by words.
-fn early(positions: usize) -> usize
-    ensures { result ≡ min positions 9216 }
-{
-    if positions < EARLY { positions } else { EARLY }
-}
+    // The search among positions from a byte on. A byte with no window within the tolerance is passed over. The columns go forward: a table that is none ends
+    // it.
+    fn by_columns(&self, from: usize, count: usize, table: &[u64; 1280]) -> Option<Found>
+        requires { 8 * from + count + self.now.frame + 31 ≤ 8 * length self.now.buffer.now }
+        ensures { Columns self.now.marker self.now.tolerance table.now → met_or_none result ≡ first_among self.now count (8 * from) }
+    {
+        let end = from + count / 8;
+        let mut at = finder_passing::next(self.buffer, from, end, table);
+        while at < end {
+            let found = self.among(at, 0, 8);
+            if found.is_some() {
+                return found;
+            }
+            let later = finder_passing::next(self.buffer, at + 1, end, table);
+            if later <= at {
+                return None;
+            }
+            at = later;
+        }
+        self.among(end, 0, count % 8)
+    }
 
-// The search among all positions whose two windows are inside the buffer.
-fn search(buffer: &[u8], marker: u32, tolerance: u32, frame: usize) -> Answer
-    requires le_frame { 64 ≤ frame }
-    requires frame_bound { frame + 32 ≤ 8 * length buffer.now }
-    requires buffer_len_bound { length buffer.now ≤ 1152921504606846976 }
-    ensures { answer_of result ≡ first_from (bits buffer.now) (marker_bits marker) tolerance frame (suc (8 * length buffer.now - (frame + 32))) 0 }
-{
-    let positions = 8 * buffer.len() - frame - 31;
-    if positions == 1 {
-        return only(buffer, marker, tolerance, frame);
+    // The one position of a buffer that has no more bits than a frame and a marker.
+    fn only(&self) -> Option<Found>
+        requires { 8 * length self.now.buffer.now ≡ self.now.frame + 32 }
+        ensures { met_or_none result ≡ first_among self.now 1 0 }
+    {
+        let first = apart(word_at(self.buffer, 0), 0, self.marker);
+        if first > self.tolerance {
+            return None;
+        }
+        let last = self.buffer.len() - 8;
+        let second = apart(word_at(self.buffer, last), 32, self.marker);
+        finder_windows::judged(0, first, second, self.tolerance)
     }
-    let words = early(positions);
-    let answer = by_words(buffer, words, marker, tolerance, frame);
-    if words == positions {
-        return answer;
+
+    // The search among all positions whose two windows are inside the buffer.
+    fn all(&self) -> Option<Found>
+        requires { self.now.frame + 32 ≤ 8 * length self.now.buffer.now }
+        ensures { met_or_none result ≡ first_among self.now (suc (8 * length self.now.buffer.now - (self.now.frame + 32))) 0 }
+    {
+        let positions = 8 * self.buffer.len() - self.frame - 31;
+        if positions == 1 {
+            return self.only();
+        }
+        let words = positions.min(EARLY);
+        let found = self.by_words(words);
+        if found.is_some() | (words == positions) {
+            return found;
+        }
+        let table = finder_columns::columns(self.marker, self.tolerance);
+        self.by_columns(words / 8, positions - words, &table)
     }
-    let Answer::Refused(_) = answer else {
-        return answer;
-    };
-    let table = finder_columns::columns(marker, tolerance);
-    by_columns(
-        buffer,
-        words / 8,
-        positions - words,
-        &table,
-        marker,
-        tolerance,
-        frame,
-    )
 }
 
 // The answer to any buffer, marker, tolerance and length of frame.
-pub fn find(buffer: &[u8], marker: u32, tolerance: u32, length: u32) -> Answer
+pub fn find(buffer: &[u8], marker: u32, tolerance: u32, length: u32) -> Result<Found, Refusal>
     ensures { answer_of result ≡ find buffer.now marker tolerance length }
 {
-    let refused = finder_windows::refusal(buffer, tolerance, length);
-    if refused != 0 {
-        return Answer::Refused(refused);
-    }
-    search(buffer, marker, tolerance, length as usize)
+    finder_windows::refusal(buffer, tolerance, length)?;
+    let search = Search {
+        buffer,
+        marker,
+        tolerance,
+        frame: length as usize,
+    };
+    search.all().ok_or(Refusal::Nowhere)
 }
 
-// The answer among the positions from one on, for a search that goes on in a buffer of any length, with columns that the caller keeps.
-pub fn next<'a>(
-    buffer: &'a [u8],
+// What stands first among the positions from one on, for a search that goes on in a buffer of any length, with columns that the caller keeps.
+pub fn next(
+    buffer: &[u8],
     from: usize,
-    table: &'a [u64; 1280],
+    table: &[u64; 1280],
     marker: u32,
     tolerance: u32,
     length: u32,
-) -> Answer
-    ensures { 64 ≤ length → List.length buffer.now ≤ 1152921504606846976 → from + (length + 31) ≤ 8 * List.length buffer.now → Columns marker tolerance table.now → answer_of result ≡ first_from (bits buffer.now) (marker_bits marker) tolerance length (8 * List.length buffer.now - (length + 31) - from) from }
+) -> Option<Found>
+    ensures { 64 ≤ length → List.length buffer.now ≤ 1152921504606846976 → from + (length + 31) ≤ 8 * List.length buffer.now → Columns marker tolerance table.now → met_or_none result ≡ first_from (bits buffer.now) (marker_bits marker) tolerance length (8 * List.length buffer.now - (length + 31) - from) from }
 {
-    let frame = length as usize;
-    let bytes = buffer.len();
-    if length < 64 {
-        return Answer::Refused(finder_windows::NONE);
+    if (length < 64) | (buffer.len() > LONGEST) {
+        return None;
     }
-    if bytes > LONGEST {
-        return Answer::Refused(finder_windows::NONE);
-    }
-    if 8 * bytes < frame + 31 {
-        return Answer::Refused(finder_windows::NONE);
-    }
-    let positions = 8 * bytes - frame - 31;
+    let search = Search {
+        buffer,
+        marker,
+        tolerance,
+        frame: length as usize,
+    };
+    let positions = (8 * buffer.len()).checked_sub(search.frame + 31)?;
     if positions < from {
-        return Answer::Refused(finder_windows::NONE);
+        return None;
     }
     let at = from / 8;
     let left = positions - 8 * at;
     if left < 8 {
-        return among(buffer, at, from % 8, left, marker, tolerance, frame);
+        return search.among(at, from % 8, left);
     }
-    let answer = among(buffer, at, from % 8, 8, marker, tolerance, frame);
-    let Answer::Refused(_) = answer else {
-        return answer;
-    };
-    by_columns(buffer, at + 1, left - 8, table, marker, tolerance, frame)
+    let found = search.among(at, from % 8, 8);
+    if found.is_some() {
+        return found;
+    }
+    search.by_columns(at + 1, left - 8, table)
 }

@@ -1,13 +1,16 @@
 -- The definition's search, position by position and in parts. Assumes nothing.
 use mathlib.Core.Path.{◌≡◌, refl, sym, ap, ap₂, ◌∙◌}
-use mathlib.Core.Bool.{Bool, true, false, cond, ◌&&◌}
+use mathlib.Core.Bool.{Bool, true, false, cond, ◌&&◌, true≢false, false≢true}
 use mathlib.Core.List.{List}
 use Prim.Native.Nat.{ℕ, zero, suc, ◌+◌, ◌-◌, ◌<◌, ◌≤◌, suc-le-suc}
 use native.Mathlib.Nat.{add-zero, zero-add, suc-add, zero-lt-suc}
 use native.Mathlib.Omega.{arith}
 use borrow.Author.Tests.{lt-leb}
 use lib.Dec.{leb}
+use Rattle.std.specs.Prelude.{Option, Some, None, is_some}
 use Rattle.finder_windows.specs.Definition.{window, distance, Answer, found, refused, stands, first_from}
+use Rattle.finder_windows.specs.declared.Found.{Found}
+use Rattle.finder_windows.specs.Answer.{met_or_none}
 
 -- an answer, or the one of a later search where there is none
 abbrev pub or_else : Answer → Answer → Answer
@@ -63,3 +66,13 @@ module _ (stream m : List ℕ) (t L : ℕ) where
     pub passed : {a : Answer} {n' p' : ℕ} → n - c ≡ n' → p + c ≡ p' → a ≡ first_from stream m t L n p → (k : ℕ) → refused k ≡ first_from stream m t L c p
         → a ≡ first_from stream m t L n' p'
     passed en ep reached k e = reached ∙ first_then ∙ rw (← e) (ap₂ (first_from stream m t L) en ep)
+
+    -- the same of what the code gives of the first c
+    pub met_early : (o : Option Found) → is_some o ≡ true → met_or_none o ≡ first_from stream m t L c p → met_or_none o ≡ first_from stream m t L n p
+    met_early (Some f) some e = among_the_first e
+    met_early None some e = absurd (false≢true some)
+
+    pub none_early : (o : Option Found) → is_some o ≡ false → met_or_none o ≡ first_from stream m t L c p → {a : Answer} {n' p' : ℕ} → n - c ≡ n' → p + c ≡ p'
+        → a ≡ first_from stream m t L n p → a ≡ first_from stream m t L n' p'
+    none_early (Some f) empty e en ep reached = absurd (true≢false empty)
+    none_early None empty e en ep reached = passed en ep reached 11 e

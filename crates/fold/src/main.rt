@@ -7,6 +7,7 @@ ghost use Rattle.program_digits.specs.Put.{Filled};
 ghost use Rattle.fold.specs.Text.{links, links_in, text};
 
 use program_system::{complain, has_argument, tell_status};
+use standard_refusal::code;
 
 const LINK: usize = 17;
 
@@ -50,7 +51,7 @@ fn answer(bytes: [u8; 289], n: usize, out: &mut [u8; 128]) -> usize
     let count = links_in(n);
     let links = links_of(bytes);
     let mut indices = [0u8; 16];
-    let refused = chain_fold::fold(&links[..count], &mut indices);
+    let refused = code(chain_fold::fold(&links[..count], &mut indices));
     program_reports::fold(refused, indices, out)
 }
 

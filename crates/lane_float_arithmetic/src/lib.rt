@@ -20,7 +20,7 @@ fn lanes64(s: [u64; 20]) -> [u64; 2]
 pub fn pairs64<F: Fn(u64, u64) -> u64>(f: F, a: u64, b: u64, c: u64, d: u64) -> [u64; 2]
     requires { F.IsAlwaysCallable f }
     ensures { (g : ℕ → ℕ → ℕ) → ((x y r : ℕ) → F.post f x y r → r ≡ g x y)
-            → joined 64 result ≡ binary 64 g (joined 64 (a ∷ b ∷ [])) (joined 64 (c ∷ d ∷ [])) }
+        → joined 64 result ≡ binary 64 g (joined 64 (a ∷ b ∷ [])) (joined 64 (c ∷ d ∷ [])) }
 {
     let mut x = [0; 20];
     let mut y = [0; 20];

@@ -36,8 +36,7 @@ fn integral<P: Pattern>(bits: P, even: bool, away: bool) -> P
     }
     if field < P::BIAS {
         return P::from_u64(
-            pick(P::SIGN <= n, P::SIGN, 0)
-                + pick(rises(even, away, bits), P::BIAS * P::FIELD, 0),
+            pick(P::SIGN <= n, P::SIGN, 0) + pick(rises(even, away, bits), P::BIAS * P::FIELD, 0),
         );
     }
     let j = P::LOWEST + 1 - field;

@@ -1,5 +1,5 @@
 -- What C is handed of a scan, as plain numbers: which state, which bytes taken and which meeting they stand for.
-use Rattle.std.specs.Prelude.{cond}
+use Rattle.std.specs.Prelude.{cond, Some, None}
 use Rattle.capture_history.specs.declared.Scan.{Scan}
 use Rattle.capture_history.specs.declared.Next.{Next}
 use Rattle.capture_history.specs.declared.Fed.{Fed}
@@ -14,4 +14,7 @@ abbrev pub fed_in : FedState → Fed
 fed_in r = record { used = r.used; scan = scan_in r.state }
 
 abbrev pub next_in : MeetingOrNone → Next
-next_in r = cond r.met (Next.Met r.position r.first r.second (scan_in r.state)) (Next.More (scan_in r.state))
+next_in r = record {
+  meeting = cond r.met (Some (record { position = r.position; first = r.first; second = r.second })) None;
+  scan = scan_in r.state;
+}

@@ -62,27 +62,22 @@ fn handed_out(scan: Scan) -> ScanState
 fn meeting_or_none(next: Next) -> MeetingOrNone
     ensures { next_in result ≡ next }
 {
-    match next {
-        Next::Met(position, first, second, scan) => {
-            let state = handed_out(scan);
-            MeetingOrNone {
-                position,
-                first,
-                second,
-                met: true,
-                state,
-            }
-        }
-        Next::More(scan) => {
-            let state = handed_out(scan);
-            MeetingOrNone {
-                position: 0,
-                first: 0,
-                second: 0,
-                met: false,
-                state,
-            }
-        }
+    let state = handed_out(next.scan);
+    match next.meeting {
+        Some(meeting) => MeetingOrNone {
+            position: meeting.position,
+            first: meeting.first,
+            second: meeting.second,
+            met: true,
+            state,
+        },
+        None => MeetingOrNone {
+            position: 0,
+            first: 0,
+            second: 0,
+            met: false,
+            state,
+        },
     }
 }
 
@@ -98,17 +93,17 @@ pub fn feed(window: &mut [u8], state: ScanState, piece: &[u8]) -> FedState
     ensures { (L : ℕ) (X : List ℕ) → Stands L X window.old (scan_in state) → Taken L X piece.now window.new (scan_in state) (fed_in result) }
 {
     let fed = capture_scanning::feed(window, taken_in(state), piece);
-    let used = fed.used;
-    let scan = fed.scan;
-    let state = handed_out(scan);
-    FedState { used, state }
+    FedState {
+        used: fed.used,
+        state: handed_out(fed.scan),
+    }
 }
 
 // The next meeting in what has come.
-pub fn next<'a>(
-    window: &'a [u8],
+pub fn next(
+    window: &[u8],
     state: ScanState,
-    table: &'a [u64; 1280],
+    table: &[u64; 1280],
     marker: u32,
     tolerance: u32,
     length: u32,
@@ -129,13 +124,12 @@ pub fn next<'a>(
 pub fn end(state: ScanState, tolerance: u32, length: u32, met: bool) -> u8
     ensures { (m X window : List ℕ) → Stands length X window (scan_in state) → met ≡ any (meetings (bits X) m tolerance length) → result ≡ ending (bits X) m tolerance length }
 {
-    capture_scanning::end(taken_in(state), tolerance, length, met)
+    standard_refusal::code(capture_scanning::end(taken_in(state), tolerance, length, met))
 }
 
 // The columns of a marker and a tolerance, made once for a scan.
 pub fn columns(table: &mut [u64; 1280], marker: u32, tolerance: u32)
     ensures { Columns marker tolerance table.new }
 {
-    let made = finder_columns::columns(marker, tolerance);
-    *table = made;
+    *table = finder_columns::columns(marker, tolerance);
 }

@@ -82,7 +82,7 @@ fn read_arguments(env: &impl Env) -> Asked {
 fn is_decided(task: Task) -> bool
     ensures { result ≡ true → (bytes : List ℕ) → find bytes task.marker task.tolerance task.length ≡ find [] task.marker task.tolerance task.length }
 {
-    finder_windows::barred(task.tolerance, task.length) != 0
+    finder_windows::barred(task.tolerance, task.length).is_err()
 }
 
 fn main(rt: HostRuntime) {

@@ -6,19 +6,21 @@ ghost use Rattle.finder_windows.specs.Answer as windows;
 ghost use Rattle.program_digits.specs.Put.{Wrote, Filled};
 ghost use Rattle.program_reports.specs.Lines.{marker, indices_line, fold};
 
+use finder_windows::Found;
 use program_digits::{put, put_count, put_hex_bytes, put_number};
+use standard_refusal::Refusal;
 
-pub fn marker(answer: finder_windows::Answer, out: &mut [u8; 128]) -> usize
+pub fn marker(answer: Result<Found, Refusal>, out: &mut [u8; 128]) -> usize
     ensures { Filled out.old (marker (windows.answer_of answer)) out.new result }
 {
     match answer {
-        finder_windows::Answer::Found(position, first, second) => {
-            let next = put_count(out, 0, b"position ", position as u64);
-            let next = put_number(out, next, b"distances ", first as u64);
-            let next = put_count(out, next, b" ", second as u64);
+        Ok(found) => {
+            let next = put_count(out, 0, b"position ", found.position as u64);
+            let next = put_number(out, next, b"distances ", found.first as u64);
+            let next = put_count(out, next, b" ", found.second as u64);
             put_count(out, next, b"refused ", 0)
         }
-        finder_windows::Answer::Refused(number) => put_count(out, 0, b"refused ", number as u64),
+        Err(refusal) => put_count(out, 0, b"refused ", u8::from(refusal) as u64),
     }
 }
 

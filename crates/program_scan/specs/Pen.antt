@@ -1,10 +1,10 @@
 -- Where lines are put one after another: the text that lines have in common, made once and changed where the next position's digits change.
-use Rattle.std.specs.Prelude.{ℕ, zero, suc, ◌+◌, ◌*◌, ◌-◌, ◌/◌, ◌%◌, ◌^◌, ◌<◌, ◌≤◌, ◌≡◌, cond, ◌&&◌, List, [], ◌∷◌, ◌++◌, ltb, leb, length, take, get_or}
+use Rattle.std.specs.Prelude.{ℕ, zero, suc, ◌+◌, ◌*◌, ◌-◌, ◌/◌, ◌%◌, ◌^◌, ◌<◌, ◌≤◌, ◌≡◌, cond, ◌&&◌, Option, Some, None, List, [], ◌∷◌, ◌++◌, ltb, leb, length, take, get_or}
 use Rattle.program_digits.specs.Codes.{codes}
 use Rattle.program_digits.specs.Digits.{digits}
 use Rattle.program_digits.specs.Put.{Wrote}
 use Rattle.finder_windows.specs.Definition.{bits, marker_bits}
-use Rattle.finder_windows.specs.declared.Answer.{Answer}
+use Rattle.finder_windows.specs.declared.Found.{Found}
 use Rattle.capture_meetings.specs.Meetings.{Meeting, met, all_from, shift}
 use Rattle.program_scan.specs.Lines.{lines}
 
@@ -51,14 +51,14 @@ abbrev pub Plain : ℕ → Type 0
 Plain code = (code < 16777216 → (code % 65536 < 10) × (code / 65536 < 10))
 
 -- a position that is found is inside, and its distances have one digit
-abbrev pub Within : ℕ → ℕ → Answer → Type 0
-Within at end (Answer.Found p d e) = (at ≤ p) × (p < end) × (d < 10) × (e < 10)
-Within at end (Answer.Refused n) = at ≤ end
+abbrev pub Within : ℕ → ℕ → Option Found → Type 0
+Within at end (Some f) = (at ≤ f.position) × (f.position < end) × (f.first < 10) × (f.second < 10)
+Within at end None = at ≤ end
 
 -- it is the first from a position on; or there is none before the end
-abbrev pub Sought : List ℕ → List ℕ → ℕ → ℕ → ℕ → ℕ → Answer → Type 0
-Sought s m t L at end (Answer.Found p d e) = all_from s m t L (p + 1 - at) at ≡ met p d e ∷ []
-Sought s m t L at end (Answer.Refused n) = all_from s m t L (end - at) at ≡ []
+abbrev pub Sought : List ℕ → List ℕ → ℕ → ℕ → ℕ → ℕ → Option Found → Type 0
+Sought s m t L at end (Some f) = all_from s m t L (f.position + 1 - at) at ≡ met f.position f.first f.second ∷ []
+Sought s m t L at end None = all_from s m t L (end - at) at ≡ []
 
 -- The lines of the meetings from a position up to another were put into a block, and nothing else was changed. Short of the end, the block has no room for what
 -- 256 positions may take.

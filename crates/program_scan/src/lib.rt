@@ -14,7 +14,7 @@ ghost use Rattle.capture_history.specs.State.{Stands};
 ghost use Rattle.program_scan.specs.Whole.{Lined};
 
 use capture_history::{CAPTURE, Scan};
-use finder::Answer;
+use finder::Found;
 
 // More room than the lines of 256 positions may take, and one line.
 const MANY: usize = 11265;
@@ -323,7 +323,7 @@ fn sought<'a>(
     marker: u32,
     tolerance: u32,
     frame: u32,
-) -> Answer
+) -> Option<Found>
     requires at_le_end { at ≤ end }
     requires le_frame { 64 ≤ frame }
     requires frame_bound { end + frame + 31 ≤ 8 * length buffer.now }
@@ -332,23 +332,20 @@ fn sought<'a>(
     ensures within { Within at end result }
     ensures sought { Columns marker tolerance table.now → Sought (bits buffer.now) (marker_bits marker) tolerance frame at end result }
 {
-    let Answer::Found(p, first, second) = finder::next(buffer, at, table, marker, tolerance, frame)
-    else {
-        return Answer::Refused(0);
-    };
-    if p < at {
-        return Answer::Refused(0);
+    let found = finder::next(buffer, at, table, marker, tolerance, frame)?;
+    if found.position < at {
+        return None;
     }
-    if p >= end {
-        return Answer::Refused(0);
+    if found.position >= end {
+        return None;
     }
-    if first > 8 {
-        return Answer::Refused(0);
+    if found.first > 8 {
+        return None;
     }
-    if second > 8 {
-        return Answer::Refused(0);
+    if found.second > 8 {
+        return None;
     }
-    Answer::Found(p, first, second)
+    Some(found)
 }
 
 // Puts the lines of the meetings from a position on, below an end. Where one follows another closely, 256 positions are looked at at once, as long as any is
@@ -405,11 +402,18 @@ fn walk<'a>(
             dense = pen.used > used;
             at += 256;
         } else {
-            let Answer::Found(p, a, b) = sought(buffer, at, end, table, marker, tolerance, frame)
-            else {
+            let Some(found) = sought(buffer, at, end, table, marker, tolerance, frame) else {
                 return Reached { used, at: end };
             };
-            pen = one(block, text, used, base + p as u64, a, b);
+            let p = found.position;
+            pen = one(
+                block,
+                text,
+                used,
+                base + p as u64,
+                found.first,
+                found.second,
+            );
             dense = p - at < 32;
             at = p + 1;
         }

@@ -391,7 +391,12 @@ fn last(course: Course, task: Task) -> u8 {
     let before = scan.before;
     let filled = scan.filled as u64;
     let from = task.from;
-    let n = capture_scanning::end(scan, task.tolerance, task.length, course.met);
+    let n = standard_refusal::code(capture_scanning::end(
+        scan,
+        task.tolerance,
+        task.length,
+        course.met,
+    ));
     if n != 10 {
         return n;
     }
@@ -433,9 +438,8 @@ fn main(rt: HostRuntime) {
         );
         return;
     };
-    let refused = finder_windows::barred(task.tolerance, task.length);
-    if refused != 0 {
-        report(&rt, refused);
+    if let Err(refusal) = finder_windows::barred(task.tolerance, task.length) {
+        report(&rt, u8::from(refusal));
         return;
     }
     let table = finder_columns::columns(task.marker, task.tolerance);

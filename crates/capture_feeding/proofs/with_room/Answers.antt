@@ -5,7 +5,7 @@ use native.Mathlib.Omega.{arith}
 use Rattle.capture_feeding.proofs.with_room.Goals as goal
 
 pub returns-then-wanted-window : goal.returns-then-wanted-window
-returns-then-wanted-window c = record { by_index = λ L X s. record { stands = s; same = refl }; by_index_2 = λ L X s. inl (omega arith) }
+returns-then-wanted-window c = record { kept = λ L X s. record { stands = s; same = refl }; room_or_in_first_byte = λ L X s. inl (omega arith) }
 
 pub returns : goal.returns
-returns c = let made = c.make_room.ensures in record { by_index = made.by_index; by_index_2 = λ L X s. inr (made.by_index_2 L X s) }
+returns c = let made = c.make_room.ensures in record { kept = made.kept; room_or_in_first_byte = λ L X s. inr (made.in_first_byte L X s) }

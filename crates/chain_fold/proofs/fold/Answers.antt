@@ -1,5 +1,5 @@
 -- `chain_fold::fold` meets its contract: a loop over the links. Assumes nothing.
-use mathlib.Core.Path.{refl, sym, ◌∙◌, subst⁻¹}
+use mathlib.Core.Path.{sym, ◌∙◌, subst⁻¹}
 use Rattle.chain.specs.Definition.{OneShuffle}
 use Rattle.chain.proofs.Judging.{unrefused}
 use Rattle.chain.proofs.Bytes.{whole_more, whole_all}
@@ -8,39 +8,34 @@ use Rattle.chain.proofs.Folding.{starts, goes_on, ends, kept}
 use borrow.Author.Rules.{rules}
 use Rattle.chain_fold.proofs.fold.Goals as goal
 
-pub returns-then-refused-ne0 : goal.returns-then-refused-ne0
-returns-then-refused-ne0 c = record {
-  value = c.judge-refused.ensures;
-  out_after = kept _ _ _ c.if-refused-ne0.true;
-  one_shuffle = λ z. absurd (c.if-refused-ne0.true z);
+pub returns-in_err-judge-clause-out_after : goal.returns-in_err-judge-clause-out_after
+returns-in_err-judge-clause-out_after c = kept _ _ _ c.from_residual.ensures.0
+
+pub loop-link-init : goal.loop-link-init
+loop-link-init c = record {
+  folding = starts _;
+  whole = tt;
 }
 
-pub loop-k-init : goal.loop-k-init
-loop-k-init c = (search rules, (refl, (starts _, tt)))
-
-pub loop-k-preserved : goal.loop-k-preserved
-loop-k-preserved c =
-    let loop = c.loop-k in
+pub loop-link-preserved : goal.loop-link-preserved
+loop-link-preserved c =
+    let loop = c.loop-link in
     let links = c.args.links.now in
-    let legal = unrefused links (sym c.judge-refused.ensures ∙ c.if-refused-ne0.false) in (
-      search rules,
-      (
-        refl,
-        (
-          goes_on links loop.k loop.current loop.invariant.1.1.0 _ c.linked-next.result (search rules) legal (search rules) c.linked-next.ensures.value,
-          whole_more links loop.k _ (search rules) c.linked-next.ensures.link_len loop.invariant.1.1.1,
-        ),
-      ),
-    )
+    let legal = unrefused links (sym c.in_ok-judge.ensures) in record {
+      folding =
+          goes_on links loop.link-index loop.current loop.invariant.folding _ c.linked-next.result c.loop-link-test.true legal (search rules)
+          c.linked-next.ensures.value;
+      whole = whole_more links loop.link-index _ c.loop-link-test.true c.linked-next.ensures.link_len loop.invariant.whole;
+    }
 
 pub returns : goal.returns
 returns c =
-    let loop = c.loop-k in
+    let loop = c.loop-link in
     let links = c.args.links.now in
-    let judged = sym c.judge-refused.ensures ∙ c.if-refused-ne0.false in
-    let folds = ends links loop.k loop.current loop.invariant.1.1.0 (search rules) in
+    let judged = sym c.in_ok-judge.ensures in
+    let folds = ends links loop.link-index loop.current loop.invariant.folding c.loop-link-test.false in
     record {
       value = sym judged;
       out_after = folds;
-      one_shuffle = λ z. subst⁻¹ (OneShuffle links) folds (folds_into links (whole_all links loop.k (search rules) loop.invariant.1.1.1) judged);
+      one_shuffle = subst⁻¹ (OneShuffle links) folds (folds_into links (whole_all links loop.link-index c.loop-link-test.false loop.invariant.whole) judged);
     }

@@ -19,6 +19,7 @@ returns c =
     rw (
       ← c.links_in-count.ensures.value,
       ← c.links_of-links.ensures,
-      ← c.fold-refused.ensures.value,
-      ← c.fold-refused.ensures.out_after,
-    ) c.fold.ensures
+      ← c.fold.ensures.value,
+      ← c.fold.ensures.out_after,
+      ← c.code-refused.ensures,
+    ) c.fold-2.ensures

@@ -1,8 +1,6 @@
 -- `lane_float_integral::integral` meets its contract. Assumes nothing.
-use mathlib.Core.Path.{ap, ap₂, ◌∙◌}
-use mathlib.Core.Bool.{Bool, cond}
-use Prim.Native.Nat.{ℕ, ◌+◌, ◌*◌}
-use lib.Dec.{leb}
+use mathlib.Core.Path.{ap₂, ◌∙◌}
+use Prim.Native.Nat.{◌+◌}
 use Rattle.lane_float_pattern.proofs.ToWhole.{of_nan, large, small}
 use Rattle.lane_float_integral.proofs.Between.{fits, cut_fits, cut_is}
 use Rattle.lane_float_integral.proofs.integral.Goals as goal

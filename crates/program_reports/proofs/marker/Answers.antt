@@ -7,12 +7,12 @@ use Rattle.program_reports.specs.Lines.{marker}
 use Rattle.program_reports.proofs.Lengths.{marker_length}
 use Rattle.program_reports.proofs.marker.Goals as goal
 
-pub returns-in-Found : goal.returns-in-Found
+pub returns-in-Ok : goal.returns-in-Ok
 unfolding marker codes
-returns-in-Found c =
-    filled (marker_length (answer_of c.args.answer)) (search rules) (rw c.in-Found.is (search (rules, then)))
+returns-in-Ok c =
+    filled (marker_length (answer_of c.args.answer)) (search rules) (rw c.in-Ok.is (search (rules, then)))
 
-pub returns-in-Refused : goal.returns-in-Refused
+pub returns-in-Err : goal.returns-in-Err
 unfolding marker codes
-returns-in-Refused c =
-    filled (marker_length (answer_of c.args.answer)) (search rules) (rw c.in-Refused.is (search (rules, then)))
+returns-in-Err c =
+    filled (marker_length (answer_of c.args.answer)) (search rules) (rw c.in-Err.is (search (rules, then)))

@@ -7,58 +7,59 @@ use Rattle.finder_windows.specs.Definition.{bits, marker_bits}
 use Rattle.program_scan.proofs.Search.{nowhere, head, near, beyond}
 use Rattle.program_scan.proofs.sought.Goals as goal
 
-pub returns-in_default : goal.returns-in_default
-returns-in_default c =
+pub returns-in_err-found : goal.returns-in_err-found
+returns-in_err-found c =
     let given = c.args in record {
-      within = omega arith;
-      sought = λ made. nowhere (bits given.buffer.now) (marker_bits given.marker) given.tolerance given.frame
-          (8 * length given.buffer.now - (given.frame + 31) - given.at) given.at given.end (omega arith) (omega arith) _
-          (sym (rw c.in_default.is at (c.next.ensures (omega arith) (omega arith) (omega arith) made)));
+      within = rw c.from_residual.ensures (omega arith);
+      sought = λ made. rw c.from_residual.ensures
+          (nowhere (bits given.buffer.now) (marker_bits given.marker) given.tolerance given.frame
+          (8 * length given.buffer.now - (given.frame + 31) - given.at) given.at given.end (omega arith) (omega arith) 11
+          (sym (c.in_err-found.ensures (omega arith) (omega arith) (omega arith) made)));
     }
 
-pub returns-then-p-at : goal.returns-then-p-at
-returns-then-p-at c =
+pub returns-then-found-at : goal.returns-then-found-at
+returns-then-found-at c =
     let given = c.args in record {
       within = omega arith;
       sought = λ made. absurd (omega (
         arith,
         (head (bits given.buffer.now) (marker_bits given.marker) given.tolerance given.frame
             (8 * length given.buffer.now - (given.frame + 31) - given.at) given.at given.end (omega arith) (omega arith) _ _ _
-            (sym (rw c.in-Found.is at (c.next.ensures (omega arith) (omega arith) (omega arith) made)))).low,
+            (sym (c.in_ok-found.ensures (omega arith) (omega arith) (omega arith) made))).low,
       ));
     }
 
-pub returns-then-p-end : goal.returns-then-p-end
-returns-then-p-end c =
+pub returns-then-found-end : goal.returns-then-found-end
+returns-then-found-end c =
     let given = c.args in record {
       within = omega arith;
       sought = λ made. beyond (bits given.buffer.now) (marker_bits given.marker) given.tolerance given.frame
           (8 * length given.buffer.now - (given.frame + 31) - given.at) given.at given.end (omega arith) (omega arith) _ _ _
-          (sym (rw c.in-Found.is at (c.next.ensures (omega arith) (omega arith) (omega arith) made)))
+          (sym (c.in_ok-found.ensures (omega arith) (omega arith) (omega arith) made))
           (omega arith);
     }
 
-pub returns-then-first-gt8 : goal.returns-then-first-gt8
-returns-then-first-gt8 c =
+pub returns-then-found-gt8 : goal.returns-then-found-gt8
+returns-then-found-gt8 c =
     let given = c.args in record {
       within = omega arith;
       sought = λ made. absurd (omega (
         arith,
         (near (bits given.buffer.now) (marker_bits given.marker) given.tolerance given.frame
             (8 * length given.buffer.now - (given.frame + 31) - given.at) given.at given.end (omega arith) (omega arith) _ _ _
-            (sym (rw c.in-Found.is at (c.next.ensures (omega arith) (omega arith) (omega arith) made)))).0,
+            (sym (c.in_ok-found.ensures (omega arith) (omega arith) (omega arith) made))).0,
       ));
     }
 
-pub returns-then-second-gt8 : goal.returns-then-second-gt8
-returns-then-second-gt8 c =
+pub returns-then-found-gt8-2 : goal.returns-then-found-gt8-2
+returns-then-found-gt8-2 c =
     let given = c.args in record {
       within = omega arith;
       sought = λ made. absurd (omega (
         arith,
         (near (bits given.buffer.now) (marker_bits given.marker) given.tolerance given.frame
             (8 * length given.buffer.now - (given.frame + 31) - given.at) given.at given.end (omega arith) (omega arith) _ _ _
-            (sym (rw c.in-Found.is at (c.next.ensures (omega arith) (omega arith) (omega arith) made)))).1,
+            (sym (c.in_ok-found.ensures (omega arith) (omega arith) (omega arith) made))).1,
       ));
     }
 
@@ -68,5 +69,5 @@ returns c =
       within = (omega arith, omega arith, omega arith, omega arith);
       sought = λ made. (head (bits given.buffer.now) (marker_bits given.marker) given.tolerance given.frame
           (8 * length given.buffer.now - (given.frame + 31) - given.at) given.at given.end (omega arith) (omega arith) _ _ _
-          (sym (rw c.in-Found.is at (c.next.ensures (omega arith) (omega arith) (omega arith) made)))).only;
+          (sym (c.in_ok-found.ensures (omega arith) (omega arith) (omega arith) made))).only;
     }

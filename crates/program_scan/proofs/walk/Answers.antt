@@ -6,7 +6,7 @@ use native.Mathlib.Omega.{arith}
 use lib.Dec.{leb}
 use lib.ListN.{length}
 use Rattle.finder_windows.specs.Definition.{bits, marker_bits}
-use Rattle.finder_windows.specs.declared.Answer.{Answer}
+use Rattle.std.specs.Prelude.{Some}
 use Rattle.program_scan.specs.Pen.{Within}
 use Rattle.program_scan.proofs.Search.{both, exact, begun_exact, more, one_more, none_more, begun}
 use borrow.Author.Tests.{leb-true}
@@ -135,8 +135,7 @@ pub overflow_add-base-else-dense-room : goal.overflow_add-base-else-dense-room
 overflow_add-base-else-dense-room c =
     let given = c.args in
     let within : Within c.loop-at.at given.end
-    (Answer.Found c.in-Found.p c.in-Found.a
-    c.in-Found.b) = rw c.in-Found.is at
+    (Some c.in-Some.found) = rw c.in-Some.is at
     c.sought.ensures.within in
     let high : given.end + given.frame + 31 ≤ 8 * length
     given.buffer.now = c.requires.frame_bound in
@@ -149,13 +148,12 @@ one-pen-requires c =
     let loop = c.loop-at in
     let inv = loop.invariant in
     let within : Within loop.at given.end
-    (Answer.Found c.in-Found.p c.in-Found.a
-    c.in-Found.b) = rw c.in-Found.is at
+    (Some c.in-Some.found) = rw c.in-Some.is at
     c.sought.ensures.within in
     let high : given.end + given.frame + 31 ≤ 8 * length
     given.buffer.now = c.requires.frame_bound in
     let below : given.base + 8 * length given.buffer.now ≤ 9223372036854775808 = c.requires.buffer_bound in
-    let number : given.base + c.in-Found.p < 9223372036854775808 = omega (arith, within.1, high, below) in
+    let number : given.base + c.in-Some.found.position < 9223372036854775808 = omega (arith, within.1, high, below) in
     let room : 45 ≤ length loop.block - loop.pen.used = c.is_full.ensures.le_room c.if-is_full.false in
     let space : loop.pen.used + 44 ≤ length loop.block = omega (arith, room) in record {
       in_bounds = omega (arith, inv.3);
@@ -169,10 +167,8 @@ overflow_sub-dense c =
     let given = c.args in
     let loop = c.loop-at in
     let within : Within loop.at given.end
-    (Answer.Found c.in-Found.p
-    c.in-Found.a
-    c.in-Found.b) = rw
-    c.in-Found.is at
+    (Some c.in-Some.found) = rw
+    c.in-Some.is at
     c.sought.ensures.within in
     within.0
 
@@ -181,10 +177,8 @@ overflow_add-at-else-dense-room c =
     let given = c.args in
     let loop = c.loop-at in
     let within : Within loop.at given.end
-    (Answer.Found c.in-Found.p
-    c.in-Found.a
-    c.in-Found.b) = rw
-    c.in-Found.is at
+    (Some c.in-Some.found) = rw
+    c.in-Some.is at
     c.sought.ensures.within in
     let high : given.end + given.frame + 31 ≤ 8 * length given.buffer.now = c.requires.frame_bound in
     let below : given.base + 8 * length given.buffer.now ≤ 9223372036854775808 = c.requires.buffer_bound in
@@ -195,10 +189,8 @@ loop-at-smaller c =
     let given = c.args in
     let loop = c.loop-at in
     let within : Within loop.at given.end
-    (Answer.Found c.in-Found.p
-    c.in-Found.a
-    c.in-Found.b) = rw
-    c.in-Found.is at
+    (Some c.in-Some.found) = rw
+    c.in-Some.is at
     c.sought.ensures.within in
     omega (arith, within.0, within.1)
 
@@ -207,14 +199,12 @@ loop-at-preserved c =
     let given = c.args in
     let loop = c.loop-at in
     let within : Within loop.at given.end
-    (Answer.Found c.in-Found.p
-    c.in-Found.a
-    c.in-Found.b) = rw
-    c.in-Found.is at
+    (Some c.in-Some.found) = rw
+    c.in-Some.is at
     c.sought.ensures.within in
     let inv = loop.invariant in
     let one = c.one-pen in
-    let p = c.in-Found.p in
+    let p = c.in-Some.found.position in
     let next : given.base + p + 1 ≡ given.base + (p + 1) = omega arith in
     let room : 45 ≤ length loop.block - loop.pen.used = c.is_full.ensures.le_room c.if-is_full.false in
     let size : length loop.block ≡ length given.block.now = inv.2 in
@@ -230,7 +220,7 @@ loop-at-preserved c =
       λ made. let put = one_more (bits given.buffer.now) (marker_bits given.marker) given.tolerance given.frame given.base given.from
           loop.at
           inv.0 (inv.8 made).0 p _ _ within.0
-          (rw c.in-Found.is at
+          (rw c.in-Some.is at
           (c.sought.ensures.sought made)) one.ensures.wrote in
           (put, exact put (omega (arith, used, room, size))),
     )

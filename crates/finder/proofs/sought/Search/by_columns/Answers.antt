@@ -1,4 +1,4 @@
--- `finder::by_columns` meets its contract: what a search from the byte reached gives is the answer. Assumes nothing.
+-- `finder::sought::Search::by_columns` meets its contract: what a search from the byte reached gives is the answer. Assumes nothing.
 use Prim.Native.Nat.{ℕ, ◌+◌, ◌*◌, ◌-◌, ◌/◌, ◌%◌, ◌≤◌}
 use mathlib.Core.Path.{◌≡◌, refl, sym, ◌∙◌}
 use mathlib.Core.List.{List}
@@ -6,9 +6,9 @@ use mathlib.Core.Logic.{⊎_elim}
 use native.Mathlib.Nat.{add-zero}
 use native.Mathlib.Omega.{arith}
 use Rattle.finder_windows.specs.Definition.{bits, marker_bits, Answer, first_from}
-use Rattle.finder_windows.proofs.Positions.{far, none, among_the_first, passed}
+use Rattle.finder_windows.proofs.Positions.{far, none, passed, met_early, none_early}
 use Rattle.finder_passing.specs.Next.{Far, Next}
-use Rattle.finder.proofs.by_columns.Goals as goal
+use Rattle.finder.proofs.sought.Search.by_columns.Goals as goal
 
 -- a search goes on behind bytes in which every window is too far
 over : (bs : List ℕ) (m t L from to n : ℕ) {a : Answer} {n' : ℕ} → from ≤ to → 8 * to ≤ 8 * from + n → n - (8 * to - 8 * from) ≡ n' → Far bs m t from to
@@ -24,36 +24,35 @@ not_past next h = ⊎_elim (λ same. omega arith) (λ inside. inside.0) next.ins
 pub loop-at-init : goal.loop-at-init
 loop-at-init c = λ made.
     let given = c.args in
-    let next = c.next-at.ensures given.marker given.tolerance (omega arith) made in
+    let next = c.next-at.ensures given.self.now.marker given.self.now.tolerance (omega arith) made in
     let to = not_past next (omega arith) in
     (next.reached, to, over _ _ _ _ given.from c.next-at.result given.count next.reached (omega arith) (omega arith) next.far refl)
 
-pub returns-in_default : goal.returns-in_default
-returns-in_default c = λ made.
+pub returns-then-is_some : goal.returns-then-is_some
+returns-then-is_some c = λ made.
     let given = c.args in
     let loop = c.loop-at in
-    let told = c.in_default.is in
     let so_far = loop.invariant made in
-    rw told
-    (among_the_first _ _ _ _ 8 (8 * given.from + given.count - 8 * loop.at) (8 * loop.at) (omega (arith, so_far.0, so_far.1))
-    (rw (add-zero (8 * loop.at), told) at c.among-answer.ensures) ∙ sym so_far.2)
+    met_early _ _ _ _ 8 (8 * given.from + given.count - 8 * loop.at) (8 * loop.at) (omega (arith, so_far.0, so_far.1)) c.among-found.result
+    (sym c.is_some.ensures ∙ c.if-is_some.true)
+    (rw (add-zero (8 * loop.at)) at c.among-found.ensures)
+    ∙ sym so_far.2
 
 -- columns go forward
 pub returns-then-later-at : goal.returns-then-later-at
-returns-then-later-at c = λ made. absurd (omega (arith, (c.next-later.ensures c.args.marker c.args.tolerance (omega arith) made).reached))
+returns-then-later-at c = λ made. absurd (omega (arith, (c.next-later.ensures c.args.self.now.marker c.args.self.now.tolerance (omega arith) made).reached))
 
 pub loop-at-preserved : goal.loop-at-preserved
 loop-at-preserved c = λ made.
     let given = c.args in
     let loop = c.loop-at in
-    let told = c.in-Refused in
     let so_far = loop.invariant made in
-    let next = c.next-later.ensures c.args.marker c.args.tolerance (omega arith) made in
+    let next = c.next-later.ensures c.args.self.now.marker c.args.self.now.tolerance (omega arith) made in
     let to = not_past next (omega arith) in
     let one : 8 * loop.at + 8 ≡ 8 * (loop.at + 1) = omega arith in
-    let behind = passed _ _ _ _ 8 (8 * given.from + given.count - 8 * loop.at) (8 * loop.at) (omega (arith, so_far.0, so_far.1)) refl one so_far.2
-    told.field-0
-    (rw (add-zero (8 * loop.at), told.is) at c.among-answer.ensures) in (
+    let behind = none_early _ _ _ _ 8 (8 * given.from + given.count - 8 * loop.at) (8 * loop.at) (omega (arith, so_far.0, so_far.1)) c.among-found.result
+    (sym c.is_some.ensures ∙ c.if-is_some.false)
+    (rw (add-zero (8 * loop.at)) at c.among-found.ensures) refl one so_far.2 in (
       omega (arith, next.reached, so_far.0),
       to,
       over _ _ _ _ (loop.at + 1) c.next-later.result (8 * given.from + given.count - 8 * loop.at - 8) next.reached (omega (arith, so_far.0))
