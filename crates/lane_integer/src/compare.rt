@@ -1,5 +1,5 @@
 // Two lanes compared: all ones where the comparison holds, else all zeros; and a lane's sign.
-ghost use Rattle.std.specs.Prelude.{◌≡◌, not};
+ghost use Rattle.std.specs.Prelude.{◌≡◌, if◌then◌else◌};
 ghost use Rattle.std.specs.Int.Signed.{non_neg};
 ghost use Rattle.standard.specs.Integer.{signed, ieq, ine, ilt_u, igt_u, ile_u, ige_u, ilt_s, igt_s, ile_s, ige_s};
 
@@ -66,9 +66,9 @@ pub fn ge_s<L: Lane>(a: L, b: L) -> L
     truth(!a.lt_s(b))
 }
 
-/// Whether the sign bit is set.
-pub fn is_negative<L: Lane>(x: L) -> bool
-    ensures { result ≡ not (non_neg (signed L.width (L.number x))) }
+/// The sign bit.
+pub fn sign<L: Lane>(x: L) -> u8
+    ensures { result ≡ (if non_neg (signed L.width (L.number x)) then 0 else 1) }
 {
-    x.lt_s(L::zero())
+    if x.lt_s(L::zero()) { 1 } else { 0 }
 }

@@ -310,12 +310,10 @@ impl Lanes for u64 {
     }
 
     fn replace(v: V128, lane: u8, x: u64) -> Result<V128, Refusal> {
-        if lane == 0 {
-            Ok(V128 { lo: x, hi: v.hi })
-        } else if lane == 1 {
-            Ok(V128 { lo: v.lo, hi: x })
-        } else {
-            Err(Refusal::Lane)
+        match lane {
+            0 => Ok(V128 { lo: x, hi: v.hi }),
+            1 => Ok(V128 { lo: v.lo, hi: x }),
+            _ => Err(Refusal::Lane),
         }
     }
 

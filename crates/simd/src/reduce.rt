@@ -4,7 +4,7 @@ ghost use Rattle.standard.specs.Vector.{any_true, all_true, bitmask};
 ghost use Rattle.simd.specs.Number.{number};
 
 use crate::V128;
-use lane_integer::compare::is_negative;
+use lane_integer::compare::sign;
 
 impl V128 {
     // The Rust's test of the number `as_u128` becomes one of two halves.
@@ -48,7 +48,7 @@ impl V128 {
         let mut i = 16;
         while 0 < i {
             i -= 1;
-            mask = 2 * mask + (is_negative(a[i]) as u32);
+            mask = 2 * mask + (sign(a[i]) as u32);
         }
         mask
     }
@@ -62,7 +62,7 @@ impl V128 {
         let mut i = 8;
         while 0 < i {
             i -= 1;
-            mask = 2 * mask + (is_negative(a[i]) as u32);
+            mask = 2 * mask + (sign(a[i]) as u32);
         }
         mask
     }
@@ -76,7 +76,7 @@ impl V128 {
         let mut i = 4;
         while 0 < i {
             i -= 1;
-            mask = 2 * mask + (is_negative(a[i]) as u32);
+            mask = 2 * mask + (sign(a[i]) as u32);
         }
         mask
     }
@@ -84,6 +84,6 @@ impl V128 {
     pub fn i64x2_bitmask(self) -> u32
         ensures { result ≡ bitmask 64 (number self) }
     {
-        (is_negative(self.lo) as u32) + 2 * (is_negative(self.hi) as u32)
+        (sign(self.lo) as u32) + 2 * (sign(self.hi) as u32)
     }
 }

@@ -64,7 +64,7 @@ impl V128 {
         M::of_places(at_each::<L, M, F>(self, f)).lo
     }
 
-    fn narrow<L: Lanes, M: Lanes, F: Fn(L) -> M>(self, high: V128, f: F) -> V128
+    fn narrow<L: Lanes, M: Lanes, F: Fn(L) -> M + Copy>(self, high: V128, f: F) -> V128
         requires callable { F.IsAlwaysCallable f }
         requires alike { M.COUNT ≡ L.COUNT }
         requires double { L.width ≡ 2 * M.width }
@@ -72,8 +72,8 @@ impl V128 {
         ensures { (sx : ℕ → ℕ → ℕ → ℕ) → ((a : ℕ) → sx L.width M.width a < 2 ^ M.width) → Gives L.number M.number (F.post f) (sx L.width M.width) → number result ≡ narrow sx M.width (number self) (number high) }
     {
         V128 {
-            lo: self.narrowed(&f),
-            hi: high.narrowed(&f),
+            lo: self.narrowed(f),
+            hi: high.narrowed(f),
         }
     }
 

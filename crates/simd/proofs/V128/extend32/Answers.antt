@@ -4,4 +4,4 @@ use Rattle.standard.proofs.Widths.{extend_half}
 use Rattle.simd.proofs.V128.extend32.Goals as goal
 
 pub returns : goal.returns
-returns c = c.widen32.ensures ∙ extend_half 32 2 refl _ _ _ _ (c.half.ensures 32 2 refl refl)
+returns g c = λ sx k. c.widen32.ensures sx k ∙ extend_half 32 2 refl _ sx _ _ (c.half.ensures 32 2 refl refl)

@@ -3,10 +3,10 @@
 use Rattle.simd.proofs.V128.f64x2_splat.Goals as goal
 
 pub returns : goal.returns
-returns c = rw (← c.to_bits.ensures) c.splat64.ensures
+returns c = rw (← c.to_bits.ensures) c.splat.ensures
 
 pub to_bits-requires : goal.to_bits-requires
 to_bits-requires c = tt
 
-pub splat64-requires : goal.splat64-requires
-splat64-requires c = tt
+pub splat-requires : goal.splat-requires
+splat-requires c = tt

@@ -6,4 +6,4 @@ use Rattle.simd.proofs.V128.format32.Goals as goal
 
 pub returns : goal.returns
 unfolding unary
-returns c = c.join32.ensures ∙ ap (joined 32) (c.each32.ensures ∙ ap (map _) c.lanes32.ensures)
+returns g c = λ h e. c.join32.ensures ∙ ap (joined 32) (c.each32.ensures h e ∙ ap (map h) c.lanes32.ensures)

@@ -8,4 +8,4 @@ use Rattle.simd.proofs.V128.format_low.Goals as goal
 
 pub returns : goal.returns
 unfolding convert_low
-returns c = joined_64 _ _ (c.low-a.ensures ∙ ap (map _) (ap low_half c.lanes32.ensures))
+returns g c = λ h e. joined_64 _ _ (c.low-a.ensures h e ∙ ap (map h) (ap low_half c.lanes32.ensures))

@@ -6,15 +6,13 @@ use Prim.Native.Nat.{ℕ}
 use Rattle.standard.specs.Lanes.{joined}
 use Rattle.standard.specs.Vector.{convert_zero}
 use Rattle.standard.proofs.Halves.{lanes_64, joined_64, joined_halves}
-use Rattle.array_convert.specs.Reformat.{zero_of}
 use Rattle.simd.proofs.V128.format_zero.Goals as goal
 
 pub returns : goal.returns
 unfolding convert_zero
-returns c =
+returns g c = λ h e.
     let lo : ℕ = c.args.self.lo in
     let hi : ℕ = c.args.self.hi in
-    let f : ℕ → ℕ = zero_of c.args.op in
-    joined_64 _ _ c.zero-a.ensures
-    ∙ sym (joined_halves 32 2 refl (map f (lo ∷ hi ∷ [])) (0 ∷ 0 ∷ []) refl)
-    ∙ ap (λ (ds : List ℕ). joined 32 (map f ds ++ 0 ∷ 0 ∷ [])) (sym (lanes_64 lo hi (search rules) (search rules)))
+    joined_64 _ _ (c.zero-a.ensures h e)
+    ∙ sym (joined_halves 32 2 refl (map h (lo ∷ hi ∷ [])) (0 ∷ 0 ∷ []) refl)
+    ∙ ap (λ (ds : List ℕ). joined 32 (map h ds ++ 0 ∷ 0 ∷ [])) (sym (lanes_64 lo hi (search rules) (search rules)))

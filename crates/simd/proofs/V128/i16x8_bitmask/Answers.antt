@@ -21,7 +21,7 @@ pub loop-i-preserved : goal.loop-i-preserved
 loop-i-preserved c = (
   search rules,
   mask_turn 16 _ c.lanes16-a.ensures c.loop-i.i (search rules) (search rules)
-      c.loop-i.invariant.1 c.sign16.ensures,
+      c.loop-i.invariant.1 c.sign.ensures,
 )
 
 pub returns : goal.returns

@@ -8,4 +8,4 @@ use Rattle.simd.proofs.V128.i16x8_extract_lane_s.Goals as goal
 
 pub returns : goal.returns
 returns c = lane_taken 16 _ c.in_ok-lane_below.ensures.below
-    (ap (modulo 32) (kept w32 c.wide16.type_inv (c.wide16.ensures ∙ ap (signed 16) c.lane16.ensures)))
+    (ap (modulo 32) (kept w32 c.wide.type_inv (c.wide.ensures ∙ ap (signed 16) c.lane.ensures)))

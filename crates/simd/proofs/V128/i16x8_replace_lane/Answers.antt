@@ -3,4 +3,4 @@ use mir.Facts.{to_z-of_z}
 use Rattle.simd.proofs.V128.i16x8_replace_lane.Goals as goal
 
 pub returns : goal.returns
-returns c = rw (← to_z-of_z c.ranges.item, ← c.unsigned16.ensures) c.replace16.ensures
+returns c = rw (← to_z-of_z c.ranges.item, ← c.of_signed.ensures) c.replace.ensures

@@ -3,4 +3,4 @@ use mir.Facts.{to_z-of_z}
 use Rattle.simd.proofs.V128.i16x8_splat.Goals as goal
 
 pub returns : goal.returns
-returns c = rw (← to_z-of_z c.ranges.value, ← c.unsigned16.ensures) c.splat16.ensures
+returns c = rw (← to_z-of_z c.ranges.value, ← c.of_signed.ensures) c.splat.ensures

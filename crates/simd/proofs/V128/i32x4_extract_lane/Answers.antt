@@ -10,4 +10,4 @@ use Rattle.simd.proofs.V128.i32x4_extract_lane.Goals as goal
 
 pub returns : goal.returns
 returns c = lane_taken 32 _ c.in_ok-lane_below.ensures.below
-    (ap (modulo 32) (kept w32 c.signed32.type_inv c.signed32.ensures) ∙ modulo_signed w32 _ (search rules) ∙ c.lane32.ensures)
+    (ap (modulo 32) (kept w32 c.signed.type_inv c.signed.ensures) ∙ modulo_signed w32 _ (search rules) ∙ c.lane.ensures)

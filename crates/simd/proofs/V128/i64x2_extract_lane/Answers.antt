@@ -10,4 +10,4 @@ use Rattle.simd.proofs.V128.i64x2_extract_lane.Goals as goal
 
 pub returns : goal.returns
 returns c = lane_taken 64 _ c.in_ok-lane_below.ensures.below
-    (ap (modulo 64) (kept w64 c.signed64.type_inv c.signed64.ensures) ∙ modulo_signed w64 _ (search rules) ∙ c.lane64.ensures)
+    (ap (modulo 64) (kept w64 c.signed.type_inv c.signed.ensures) ∙ modulo_signed w64 _ (search rules) ∙ c.lane.ensures)

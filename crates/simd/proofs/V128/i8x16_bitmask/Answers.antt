@@ -21,7 +21,7 @@ pub loop-i-preserved : goal.loop-i-preserved
 loop-i-preserved c = (
   search rules,
   mask_turn 8 _ c.lanes8-a.ensures c.loop-i.i (search rules) (search rules)
-      c.loop-i.invariant.1 c.sign8.ensures,
+      c.loop-i.invariant.1 c.sign.ensures,
 )
 
 pub returns : goal.returns

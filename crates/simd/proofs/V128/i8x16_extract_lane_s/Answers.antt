@@ -8,4 +8,4 @@ use Rattle.simd.proofs.V128.i8x16_extract_lane_s.Goals as goal
 
 pub returns : goal.returns
 returns c = lane_taken 8 _ c.in_ok-lane_below.ensures.below
-    (ap (modulo 32) (kept w32 c.wide8.type_inv (c.wide8.ensures ∙ ap (signed 8) c.lane8.ensures)))
+    (ap (modulo 32) (kept w32 c.wide.type_inv (c.wide.ensures ∙ ap (signed 8) c.lane.ensures)))
