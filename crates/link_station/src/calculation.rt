@@ -7,7 +7,6 @@ ghost use Rattle.link_station.specs.Calculate.{told, scalar_numbers, stop_number
 
 use calculator_limits::Outcome;
 use calculator_scalar::Scalar;
-use calculator_state::kind;
 use lane_float::{F32, F64};
 use lane_integer::reinterpret::signed64;
 
@@ -85,7 +84,7 @@ pub fn kind_and_bits(scalar: Scalar) -> KindAndBits
     ensures { (result.kind, result.bits) ≡ scalar_numbers (kind_of scalar) (bits_of scalar) }
 {
     KindAndBits {
-        kind: kind(scalar).number(),
+        kind: scalar.kind().number(),
         bits: scalar.bits(),
     }
 }
@@ -108,12 +107,12 @@ pub fn run_answer(scalar: KindAndBits, done: usize, outcome: Outcome) -> RunAnsw
             paused: true,
             refused: 0,
         },
-        Outcome::Refused(refused) => RunAnswer {
+        Outcome::Refused(refusal) => RunAnswer {
             scalar,
             done,
             place: 0,
             paused: false,
-            refused,
+            refused: u8::from(refusal),
         },
     }
 }

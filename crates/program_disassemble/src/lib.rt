@@ -47,9 +47,8 @@ fn put_steps(out: &mut [u8], list: &[u8]) -> usize
 pub fn disassemble(list: &[u8], output: &mut [u8; 65536], said: &mut [u8; 32]) -> Told
     ensures { Tells (told list.now) output.old said.old output.new said.new result }
 {
-    let refused = calculator_limits::judge(list.len(), 0, 256);
-    if refused != 0 {
-        let n = program_digits::put_count(said, 0, b"refused ", refused as u64);
+    if let Err(refusal) = calculator_limits::judge(list.len(), 0, 256) {
+        let n = program_digits::put_count(said, 0, b"refused ", u8::from(refusal) as u64);
         return Told { output: 0, said: n };
     }
     let n = put_steps(output, list);
