@@ -21,8 +21,8 @@ next s i r q h e f =
 
 pub loop-byte-preserved : goal.loop-byte-preserved
 loop-byte-preserved c =
-  next c.args.bytes.now c.loop-byte.byte-index c.loop-byte.r
-      c.feed-r.result (omega arith) c.loop-byte.invariant c.feed-r.ensures
+    next c.args.bytes.now c.loop-byte.byte-index c.loop-byte.r
+    c.feed-r.result (omega arith) c.loop-byte.invariant c.feed-r.ensures
 
 pub returns : goal.returns
 unfolding check

@@ -13,5 +13,5 @@ returns c =
     (λ k h.
     let below : k < 37 = omega (arith, c.map.ensures.items.long) in
     let called = c.map.ensures.items.at k None 0 below in
-    let here : get_or c.map.result k 0 ≡ number_of (get_or bits k None) = (let told = called.1.1 in search rules) in
+    let here : get_or c.map.result k 0 ≡ number_of (get_or bits k None) = (let told = called.2 in search rules) in
     here ∙ sym (get_or-map number_of bits k None 0 (omega arith)))
