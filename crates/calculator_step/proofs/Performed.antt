@@ -144,7 +144,3 @@ module _ (place : ℕ) (m : Machine) (s : List ℕ) (op r : ℕ) (x : Shape) (o 
   pub stops : (r ≡ 0 → ⊥) → refused r ≡ step place m s
   unfolding step
   stops n = rw (← o, judged, ne_eqb r 0 n)
-
-  -- the vector that is told, where it is the destination's and where there is none
-  pub tells : (v g : ℕ) → v ≡ cond (profile_of x).gives_vector g 0 → v ≡ cond (profile (instruction (operation s))).gives_vector g 0
-  tells v g e = e ∙ rw (d, o) (ap (λ (p : Profile). cond p.gives_vector g 0) (profile_kept (instruction (operation s))))

@@ -18,6 +18,7 @@ use calculator_operation::given;
 use calculator_operation::replace::replace;
 use calculator_operation::splat::splat;
 use calculator_operation::ternary::ternary;
+use calculator_path::Path;
 use calculator_rules::fields::{byte, indices, operation};
 use calculator_rules::shape::Shape;
 use calculator_scalar::Scalar;
@@ -44,7 +45,7 @@ fn unwritten(scalar: Scalar) -> Stepped
 }
 
 // The vector that a step of a shape makes; source a where it makes none.
-fn make(w: &[u64; 32], scalar: Scalar, shape: Shape, op: u16, mark: u8, s: &[u8]) -> V128
+fn make(w: &[u64; 32], scalar: Scalar, shape: Shape, op: u16, path: Path, s: &[u8]) -> V128
     ensures { number result ≡ makes shape (instruction op) (vectors w.now) (kind_of scalar) (bits_of scalar) s.now }
 {
     let a = source_a(w, s);
@@ -52,10 +53,10 @@ fn make(w: &[u64; 32], scalar: Scalar, shape: Shape, op: u16, mark: u8, s: &[u8]
         Shape::None => a,
         Shape::Constant => V128::join8(indices(s)),
         Shape::Shuffle => given::vector(a.i8x16_shuffle(source_b(w, s), indices(s)), a),
-        Shape::Unary => calculator_path::unary(op, mark, a),
-        Shape::Binary => calculator_path::binary(op, mark, a, source_b(w, s)),
+        Shape::Unary => calculator_path::unary(op, path, a),
+        Shape::Binary => calculator_path::binary(op, path, a, source_b(w, s)),
         Shape::Ternary => ternary(op, a, source_b(w, s), source_c(w, s)),
-        Shape::Shift => calculator_path::shift(op, mark, a, scalar.count()),
+        Shape::Shift => calculator_path::shift(op, path, a, scalar.count()),
         Shape::Test => a,
         Shape::Splat(_) => splat(op, scalar),
         Shape::Extract(_) => a,
@@ -69,13 +70,13 @@ fn perform(w: &mut [u64; 32], scalar: Scalar, shape: Shape, op: u16, s: &[u8]) -
     ensures state { (n : List ℕ) → held w.new n result.scalar ≡ sets shape (instruction op) (held w.old n scalar) s.now }
     ensures vector { number result.written ≡ cond (profile_of shape).gives_vector (get_or (vectors w.new) (Definition.destination s.now % 16) 0) 0 }
 {
-    let mark = byte(s, 7);
+    let path = Path::from(byte(s, 7));
     match shape {
         Shape::None => unwritten(scalar),
-        Shape::Test => unwritten(Scalar::of_bits(calculator_path::test(op, mark, source_a(w, s)))),
+        Shape::Test => unwritten(Scalar::of_bits(calculator_path::test(op, path, source_a(w, s)))),
         Shape::Extract(_) => unwritten(extract(op, source_a(w, s), byte(s, 6))),
         _ => {
-            let v = make(w, scalar, shape, op, mark, s);
+            let v = make(w, scalar, shape, op, path, s);
             let to = byte(s, 2);
             put(w, to, v);
             Stepped {

@@ -29,7 +29,7 @@ returns-in-Extract c =
     let u = c.unwritten-in-Extract.ensures in
     let w = c.args.w.now in record {
       state = λ n.
-          rw (c.in-Extract.is, ← c.source_a-in-Extract.ensures, ← c.byte.ensures)
+          rw (c.in-Extract.is, ← c.source_a-in-Extract.ensures, ← c.byte-in-Extract.ensures)
           (another_scalar w n c.unwritten-in-Extract.result.scalar (ap scalar_of u.0 ∙ c.extract.ensures));
       vector = rw c.in-Extract.is u.1;
     }
