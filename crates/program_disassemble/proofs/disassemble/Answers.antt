@@ -13,7 +13,7 @@ unfolding codes
 returns-in-Err c =
     let n = c.from.result in
     rw (told_refused _ n (c.from.ensures ∙ c.in-Err.ensures) (rw c.from.ensures (not_0 c.in-Err.refusal)))
-    (record { output = none _; said = filled (said_length n) (search rules) c.put_count-n.ensures })
+    (record { output = none _; said = filled (said_length n) (search rules) c.put_count.ensures })
 
 pub returns : goal.returns
 returns c =
@@ -21,6 +21,6 @@ returns c =
     rw (told_text _ _ c.judge.ensures passed)
     (record {
       output = filled (text_length c.args.list.now (sym c.judge.ensures ∙ passed))
-          (search rules) c.put_steps-n.ensures;
+          (search rules) c.put_steps.ensures;
       said = none _;
     })
