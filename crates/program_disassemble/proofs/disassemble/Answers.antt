@@ -11,8 +11,8 @@ use Rattle.program_disassemble.proofs.disassemble.Goals as goal
 pub returns-in-Err : goal.returns-in-Err
 unfolding codes
 returns-in-Err c =
-    let n = c.from.result in
-    rw (told_refused _ n (c.from.ensures ∙ c.in-Err.ensures) (rw c.from.ensures (not_0 c.in-Err.refusal)))
+    let n = c.from-number.result in
+    rw (told_refused _ n (c.from-number.ensures ∙ c.in-Err.ensures) (rw c.from-number.ensures (not_0 c.in-Err.refusal)))
     (record { output = none _; said = filled (said_length n) (search rules) c.put_count.ensures })
 
 pub returns : goal.returns
