@@ -2,12 +2,16 @@
 -- Assumes nothing.
 use Rattle.std.proofs.Common.{◌≡◌, ℕ, ◌/◌, ◌%◌, ◌+◌, ◌*◌, ◌^◌, ◌<◌, List, refl, sym, ap, ◌∙◌, arith}
 use Rattle.std.specs.Prelude.{Result, Ok, Err}
-use Rattle.standard.specs.Memory.{past}
+use Rattle.standard.specs.Refusal.{refused}
+use Rattle.standard.specs.Memory.{Accessed, answered, past, written, kept, kept_past}
 use Rattle.standard.proofs.Digits.{low_digit, rest_digits}
 use Rattle.memory_bounds.specs.declared.Shortfall.{Shortfall}
 use Rattle.memory_access.specs.declared.Halves.{Halves}
 use Rattle.memory_bounds.specs.Bounds.{access_answer}
 use Rattle.memory_access.specs.Access.{put_answer, fetched}
+use Rattle.memory_access.specs.AccessError.{refused_access, store_answer}
+use Rattle.memory_access.specs.declared.AccessError.{AccessError}
+use Rattle.standard_refusal.proofs.Numbers.{same_number}
 use Rattle.memory_bounds.proofs.Bounds.{never, same, same_shortfall}
 
 -- of two shortfalls
@@ -57,3 +61,47 @@ puts_coincide (Ok x) (Ok y) m n e = (refl, cc)
 puts_coincide (Ok x) (Err t) m n e = let z : ◌≡◌ {A = ℕ} 0 1 = cc in absurd (omega arith)
 puts_coincide (Err s) (Ok y) m n e = let z : ◌≡◌ {A = ℕ} 0 1 = cc in absurd (omega arith)
 puts_coincide (Err s) (Err t) m n e = (ap Err (shortfalls_coincide s t cc), cc)
+
+-- an operation's refusal is no shortfall
+refused_or_past : {A X : Type 0} {n k s : ℕ} → ◌≡◌ {A = Accessed A} (answered (refused n)) (past k s) → X
+refused_or_past e = let z : ◌≡◌ {A = ℕ} 0 1 = cc in absurd (omega arith)
+
+same_refused : {A : Type 0} {n k : ℕ} → ◌≡◌ {A = Accessed A} (answered (refused n)) (answered (refused k)) → n ≡ k
+same_refused e = cc
+
+-- of two refusals of an access
+pub errors_coincide : {A : Type 0} (a b : AccessError) → ◌≡◌ {A = Accessed A} (refused_access a) (refused_access b) → a ≡ b
+errors_coincide (AccessError.Refused r) (AccessError.Refused q) e = ap AccessError.Refused (same_number r q (same_refused e))
+errors_coincide (AccessError.Refused r) (AccessError.Past t) e = refused_or_past e
+errors_coincide (AccessError.Past s) (AccessError.Refused q) e = refused_or_past (sym e)
+errors_coincide (AccessError.Past s) (AccessError.Past t) e = ap AccessError.Past (shortfalls_coincide s t (same_shortfall e))
+
+-- a store has written, or it is refused, with a shortfall or without
+kept_or_written : {X : Type 0} {n : ℕ} {l m : List ℕ} → written l ≡ kept n m → X
+kept_or_written e = let z : ◌≡◌ {A = ℕ} 0 1 = cc in absurd (omega arith)
+
+past_or_written : {X : Type 0} {n s : ℕ} {l m : List ℕ} → written l ≡ kept_past n s m → X
+past_or_written e = let z : ◌≡◌ {A = ℕ} 0 1 = cc in absurd (omega arith)
+
+past_or_kept : {X : Type 0} {n k s : ℕ} {l m : List ℕ} → kept k l ≡ kept_past n s m → X
+past_or_kept e = let z : ◌≡◌ {A = ℕ} 0 1 = cc in absurd (omega arith)
+
+both_kept : {n k : ℕ} {l m : List ℕ} → kept n l ≡ kept k m → (n ≡ k) × (l ≡ m)
+both_kept e = (cc, cc)
+
+both_past : {n k s t : ℕ} {l m : List ℕ} → kept_past n s l ≡ kept_past k t m → (s ≡ t) × (l ≡ m)
+both_past e = (cc, cc)
+
+-- of two stores under the Rust's names: the answer, and the memory that is left
+pub store_answers_coincide : (a b : Result (Unit {0}) AccessError) (l m : List ℕ) → store_answer a l ≡ store_answer b m → (a ≡ b) × (l ≡ m)
+store_answers_coincide (Ok x) (Ok y) l m e = (refl, cc)
+store_answers_coincide (Ok x) (Err (AccessError.Refused q)) l m e = kept_or_written e
+store_answers_coincide (Ok x) (Err (AccessError.Past t)) l m e = past_or_written e
+store_answers_coincide (Err (AccessError.Refused r)) (Ok y) l m e = kept_or_written (sym e)
+store_answers_coincide (Err (AccessError.Refused r)) (Err (AccessError.Refused q)) l m e =
+    let h = both_kept e in (ap (λ (k : AccessError). Err k) (ap AccessError.Refused (same_number r q h.0)), h.1)
+store_answers_coincide (Err (AccessError.Refused r)) (Err (AccessError.Past t)) l m e = past_or_kept e
+store_answers_coincide (Err (AccessError.Past s)) (Ok y) l m e = past_or_written (sym e)
+store_answers_coincide (Err (AccessError.Past s)) (Err (AccessError.Refused q)) l m e = past_or_kept (sym e)
+store_answers_coincide (Err (AccessError.Past s)) (Err (AccessError.Past t)) l m e =
+    let h = both_past e in (ap (λ (k : AccessError). Err k) (ap AccessError.Past (shortfalls_coincide s t h.0)), h.1)

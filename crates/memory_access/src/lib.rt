@@ -153,7 +153,7 @@ impl AccessError {
         ensures { result ≡ error_number self }
     {
         match self {
-            AccessError::Refused(refusal) => u8::from(refusal),
+            AccessError::Refused(why) => u8::from(why),
             AccessError::Past(_) => u8::from(Refusal::Past),
         }
     }
@@ -164,7 +164,7 @@ impl AccessError {
     {
         match self {
             AccessError::Refused(_) => 0,
-            AccessError::Past(short) => short.0,
+            AccessError::Past(Shortfall(by)) => by,
         }
     }
 }

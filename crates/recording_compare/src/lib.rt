@@ -6,8 +6,7 @@ ghost use Rattle.standard.specs.Lanes.{digits};
 ghost use Rattle.recording_fields.specs.Definition.{trace, differs, compared};
 ghost use Rattle.recording_compare.specs.Verdict.{verdict_of};
 
-use memory_access::Fetched64;
-use memory_bounds::Effective;
+use memory_access::Number;
 use recording_fields::{ending_word, scalar_word};
 
 /// What a replay says of a recording.
@@ -22,10 +21,7 @@ fn word(bytes: &[u8], at: usize) -> u64
     requires { at + 8 ≤ length bytes.now }
     ensures { digits 8 8 result ≡ take 8 (drop at bytes.now) }
 {
-    match memory_access::fetch64(bytes, Effective::Address(at)) {
-        Fetched64::Number(x) => x,
-        Fetched64::Past(_) => 0,
-    }
+    u64::read(&bytes[at..at + 8])
 }
 
 // "the first record that isn't, counted from 1"
