@@ -301,49 +301,93 @@ pub fn v128_load32x2_u_at(memory: &[u8], address: usize) -> Result<V128, AccessE
     widen32x2_u_from(memory, Effective::Address(address))
 }
 
-pub fn v128_load8_lane(memory: &[u8], ptr: u64, offset: u64, x: V128, lane: u8) -> Result<V128, AccessError>
+pub fn v128_load8_lane(
+    memory: &[u8],
+    ptr: u64,
+    offset: u64,
+    x: V128,
+    lane: u8,
+) -> Result<V128, AccessError>
     ensures { load_answer result ≡ load_lane 8 (number x) lane memory.now (ptr + offset) }
 {
     lane8_from(memory, Effective::Sum(ptr, offset), x, lane)
 }
 
-pub fn v128_load8_lane_at(memory: &[u8], address: usize, x: V128, lane: u8) -> Result<V128, AccessError>
+pub fn v128_load8_lane_at(
+    memory: &[u8],
+    address: usize,
+    x: V128,
+    lane: u8,
+) -> Result<V128, AccessError>
     ensures { load_answer result ≡ load_lane 8 (number x) lane memory.now address }
 {
     lane8_from(memory, Effective::Address(address), x, lane)
 }
 
-pub fn v128_load16_lane(memory: &[u8], ptr: u64, offset: u64, x: V128, lane: u8) -> Result<V128, AccessError>
+pub fn v128_load16_lane(
+    memory: &[u8],
+    ptr: u64,
+    offset: u64,
+    x: V128,
+    lane: u8,
+) -> Result<V128, AccessError>
     ensures { load_answer result ≡ load_lane 16 (number x) lane memory.now (ptr + offset) }
 {
     lane16_from(memory, Effective::Sum(ptr, offset), x, lane)
 }
 
-pub fn v128_load16_lane_at(memory: &[u8], address: usize, x: V128, lane: u8) -> Result<V128, AccessError>
+pub fn v128_load16_lane_at(
+    memory: &[u8],
+    address: usize,
+    x: V128,
+    lane: u8,
+) -> Result<V128, AccessError>
     ensures { load_answer result ≡ load_lane 16 (number x) lane memory.now address }
 {
     lane16_from(memory, Effective::Address(address), x, lane)
 }
 
-pub fn v128_load32_lane(memory: &[u8], ptr: u64, offset: u64, x: V128, lane: u8) -> Result<V128, AccessError>
+pub fn v128_load32_lane(
+    memory: &[u8],
+    ptr: u64,
+    offset: u64,
+    x: V128,
+    lane: u8,
+) -> Result<V128, AccessError>
     ensures { load_answer result ≡ load_lane 32 (number x) lane memory.now (ptr + offset) }
 {
     lane32_from(memory, Effective::Sum(ptr, offset), x, lane)
 }
 
-pub fn v128_load32_lane_at(memory: &[u8], address: usize, x: V128, lane: u8) -> Result<V128, AccessError>
+pub fn v128_load32_lane_at(
+    memory: &[u8],
+    address: usize,
+    x: V128,
+    lane: u8,
+) -> Result<V128, AccessError>
     ensures { load_answer result ≡ load_lane 32 (number x) lane memory.now address }
 {
     lane32_from(memory, Effective::Address(address), x, lane)
 }
 
-pub fn v128_load64_lane(memory: &[u8], ptr: u64, offset: u64, x: V128, lane: u8) -> Result<V128, AccessError>
+pub fn v128_load64_lane(
+    memory: &[u8],
+    ptr: u64,
+    offset: u64,
+    x: V128,
+    lane: u8,
+) -> Result<V128, AccessError>
     ensures { load_answer result ≡ load_lane 64 (number x) lane memory.now (ptr + offset) }
 {
     lane64_from(memory, Effective::Sum(ptr, offset), x, lane)
 }
 
-pub fn v128_load64_lane_at(memory: &[u8], address: usize, x: V128, lane: u8) -> Result<V128, AccessError>
+pub fn v128_load64_lane_at(
+    memory: &[u8],
+    address: usize,
+    x: V128,
+    lane: u8,
+) -> Result<V128, AccessError>
     ensures { load_answer result ≡ load_lane 64 (number x) lane memory.now address }
 {
     lane64_from(memory, Effective::Address(address), x, lane)

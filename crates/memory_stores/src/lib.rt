@@ -76,7 +76,12 @@ pub fn v128_store8_lane(
     lane8_to(memory, Effective::Sum(ptr, offset), value, lane)
 }
 
-pub fn v128_store8_lane_at(memory: &mut [u8], address: usize, value: V128, lane: u8) -> Result<(), AccessError>
+pub fn v128_store8_lane_at(
+    memory: &mut [u8],
+    address: usize,
+    value: V128,
+    lane: u8,
+) -> Result<(), AccessError>
     ensures { store_answer result memory.new ≡ stored (store_lane 8 (number value) lane memory.old address) memory.old }
 {
     lane8_to(memory, Effective::Address(address), value, lane)
@@ -94,7 +99,12 @@ pub fn v128_store16_lane(
     lane16_to(memory, Effective::Sum(ptr, offset), value, lane)
 }
 
-pub fn v128_store16_lane_at(memory: &mut [u8], address: usize, value: V128, lane: u8) -> Result<(), AccessError>
+pub fn v128_store16_lane_at(
+    memory: &mut [u8],
+    address: usize,
+    value: V128,
+    lane: u8,
+) -> Result<(), AccessError>
     ensures { store_answer result memory.new ≡ stored (store_lane 16 (number value) lane memory.old address) memory.old }
 {
     lane16_to(memory, Effective::Address(address), value, lane)
@@ -112,7 +122,12 @@ pub fn v128_store32_lane(
     lane32_to(memory, Effective::Sum(ptr, offset), value, lane)
 }
 
-pub fn v128_store32_lane_at(memory: &mut [u8], address: usize, value: V128, lane: u8) -> Result<(), AccessError>
+pub fn v128_store32_lane_at(
+    memory: &mut [u8],
+    address: usize,
+    value: V128,
+    lane: u8,
+) -> Result<(), AccessError>
     ensures { store_answer result memory.new ≡ stored (store_lane 32 (number value) lane memory.old address) memory.old }
 {
     lane32_to(memory, Effective::Address(address), value, lane)
@@ -130,7 +145,12 @@ pub fn v128_store64_lane(
     lane64_to(memory, Effective::Sum(ptr, offset), value, lane)
 }
 
-pub fn v128_store64_lane_at(memory: &mut [u8], address: usize, value: V128, lane: u8) -> Result<(), AccessError>
+pub fn v128_store64_lane_at(
+    memory: &mut [u8],
+    address: usize,
+    value: V128,
+    lane: u8,
+) -> Result<(), AccessError>
     ensures { store_answer result memory.new ≡ stored (store_lane 64 (number value) lane memory.old address) memory.old }
 {
     lane64_to(memory, Effective::Address(address), value, lane)
