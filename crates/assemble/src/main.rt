@@ -21,13 +21,17 @@ fn main(rt: HostRuntime) {
     let n = reading.bytes;
     let mut output = [0u8; 8192];
     let mut said = [0u8; 128];
-    let told = program_assemble::assemble(&text[..n], &mut output, &mut said);
-    let bytes = told.output;
-    if let Err(error) = rt.write_all(&output[..bytes]) {
-        complain(&rt, "assemble: standard output", error);
-        return;
+    match program_assemble::assemble(&text[..n], &mut output, &mut said) {
+        Ok(bytes) => {
+            if let Err(error) = rt.write_all(&output[..bytes]) {
+                complain(&rt, "assemble: standard output", error);
+                return;
+            }
+            tell_status(&rt, true);
+        }
+        Err(words) => {
+            let _ = rt.stderr().write_all(&said[..words]);
+            tell_status(&rt, false);
+        }
     }
-    let words = told.said;
-    let _ = rt.stderr().write_all(&said[..words]);
-    tell_status(&rt, words == 0);
 }

@@ -7,18 +7,28 @@ use Prim.Native.Nat.{ℕ, suc, ◌+◌, ◌*◌, ◌-◌, ◌<◌, ◌≤◌}
 use native.Mathlib.Nat.{add-zero}
 use native.Mathlib.Numerals.{add-one}
 use native.Mathlib.Omega.{arith}
-use lib.ListN.{take, drop}
+use lib.ListN.{take, drop, replicate}
 use lib.Seq.{drop-drop}
-use lib.Dec.{ltb}
+use lib.Dec.{ltb, eqb}
 use borrow.Author.Tests.{ltb-true, ltb-false}
 use Rattle.standard.specs.Refusal.{given, refused}
-use Rattle.calculator_rules.specs.Definition.{Machine, Ending, ended, paused, stopped, counting, step, steps}
+use Rattle.calculator_rules.specs.Definition.{Machine, Ending, ended, paused, stopped, reset, taken_up, counting, step, steps}
 use Rattle.calculator_rules.proofs.Pauses.{twice, none_before}
+use Rattle.calculator_scalar.specs.declared.Scalar.{Scalar}
+use Rattle.calculator_state.specs.State.{held}
 use Rattle.calculator.specs.Run.{ends}
 
 -- what is left of a run of n steps at a place, with those done since it was taken up
 abbrev pub rest : ℕ → ℕ → ℕ → List ℕ → ℕ → Machine → Ending
 rest n place limit list at m = counting (at - place) (steps (n - at) (limit - (at - place)) at (drop (32 * at) list) m)
+
+-- the numbers beside the registers where a run begins
+pub numbered : (place : ℕ) (w n : List ℕ) (s : Scalar) {new : List ℕ} → new ≡ cond (eqb place 0) (replicate 16 0) n
+    → held w new s ≡ taken_up place (held w n s)
+numbered place w n s e = rw e (of (eqb place 0)) where
+  of : (t : Bool) → held w (cond t (replicate 16 0) n) s ≡ cond t (reset (held w n s)) (held w n s)
+  of true = refl
+  of false = refl
 
 pub starts : (n place limit : ℕ) (list : List ℕ) (m : Machine) → rest n place limit list place m ≡ steps (n - place) limit place (drop (32 * place) list) m
 starts n place limit list m =

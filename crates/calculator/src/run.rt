@@ -5,9 +5,10 @@ ghost use Rattle.calculator_state.specs.State.{machine, held};
 ghost use Rattle.calculator.specs.Run.{ending_of, stopped_with};
 
 pub use calculator_limits::Outcome;
+use calculator_numbering::take_up;
 use calculator_scalar::Scalar;
+use calculator_state::State;
 use calculator_state::registers::{of_words, words};
-use calculator_state::{State, take_up};
 use calculator_step::step;
 
 // What a run leaves: the state, the steps done, and how it stopped.
@@ -42,26 +43,23 @@ fn steps(
     let n = list.len() / 32;
     let end = calculator_limits::stop(n, place, limit);
     let mut scalar = scalar;
-    let mut at = place;
-    while at < end {
+    for at in place..end {
         let from = 32 * at;
-        let to = from + 32;
-        let stepped = step(w, writers, scalar, at as u8, &list[from..to]);
-        let refused = stepped.refused;
-        scalar = stepped.scalar;
-        if refused != 0 {
-            return Stopped {
-                scalar,
-                done: at - place,
-                outcome: Outcome::Refused(refused),
-            };
+        match step(w, writers, scalar, at as u8, &list[from..from + 32]) {
+            Ok(left) => scalar = left.scalar,
+            Err(refusal) => {
+                return Stopped {
+                    scalar,
+                    done: at - place,
+                    outcome: Outcome::Refused(refusal),
+                };
+            }
         }
-        at += 1;
     }
     Stopped {
         scalar,
-        done: at - place,
-        outcome: calculator_limits::stopped_at(n, at),
+        done: end - place,
+        outcome: calculator_limits::stopped_at(n, end),
     }
 }
 
@@ -76,37 +74,31 @@ pub fn run_words(
 ) -> Stopped
     ensures { stopped_with result w.new writers.new ≡ Definition.run list.now place limit (held w.old writers.old scalar) }
 {
-    let refused = calculator_limits::judge(list.len(), place, limit);
-    if refused == 0 {
-        take_up(writers, place);
-        steps(w, writers, scalar, list, place, limit)
-    } else {
-        Stopped {
+    let judged = calculator_limits::judge(list.len(), place, limit);
+    take_up(writers, judged, place);
+    match judged {
+        Ok(()) => steps(w, writers, scalar, list, place, limit),
+        Err(refusal) => Stopped {
             scalar,
             done: 0,
-            outcome: Outcome::Refused(refused),
-        }
+            outcome: Outcome::Refused(refusal),
+        },
     }
 }
 
 pub fn run(state: State, list: &[u8], place: usize, limit: usize) -> Ending
     ensures { ending_of result ≡ Definition.run list.now place limit (machine state) }
 {
-    let all = state.registers;
-    let mut w = words(all);
+    let mut w = words(state.registers);
     let mut writers = state.writers;
-    let held = state.scalar;
-    let stopped = run_words(&mut w, &mut writers, held, list, place, limit);
-    let registers = of_words(w);
-    let scalar = stopped.scalar;
-    let outcome = stopped.outcome;
+    let stopped = run_words(&mut w, &mut writers, state.scalar, list, place, limit);
     Ending {
         state: State {
-            registers,
+            registers: of_words(w),
             writers,
-            scalar,
+            scalar: stopped.scalar,
         },
         done: stopped.done,
-        outcome,
+        outcome: stopped.outcome,
     }
 }

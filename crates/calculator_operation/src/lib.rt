@@ -1,4 +1,5 @@
-// An operation by the standard's number, lane by lane: a function for each family, by the methods of the vector.
+// An operation by the standard's number, lane by lane: a function for each family, by the methods of the vector. By numbers and not by an enum, since the
+// definition's table is by numbers: an enum would be the standard's names once more, with a list of its numbers in specs/ to be believed beside the table.
 #![tactic(auto)]
 
 pub mod extract;

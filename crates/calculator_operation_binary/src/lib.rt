@@ -1,4 +1,5 @@
-// A vector from two vectors, lane by lane: the standard's number chooses the method.
+// A vector from two vectors, lane by lane: the standard's number chooses the method (`calculator_operation` says why a number). By ranges, since one match of
+// its 110 numbers would be one function of as many lines.
 #![tactic(auto)]
 
 ghost use Rattle.std.specs.Prelude.{◌≡◌, ◌≤◌, ◌<◌};

@@ -48,12 +48,32 @@ pub judged : {shape : Shape} (x : Shape) (k : Kind) (s : List ℕ) {r : ℕ} →
     (unless (cond (profile_of x).shuffles (legal (indices s)) true) 5 (unless (right_kind (profile_of x).reads k) 6 0))) → r ≡ refusal (profile_of shape) k s
 judged x k s e h q = rw (e, in_order (profile_of x) k s h) q
 
--- one test after the other: what the code's test says is the definition's, where what is tested is and what the later ones say is
+-- one test after the other: a test that fails is the answer, one that passes leaves it to the later ones, and of the last these say nothing
+fails : (n later : ℕ) {e : ℕ} {t u : Bool} → (e ≡ 0 → ⊥) → e ≡ unless t n 0 → t ≡ u → e ≡ unless u n later
+fails n later {t = true} some h f = absurd (some h)
+fails n later {t = false} some h f = rw (← f) h
+
+passes : (n : ℕ) {r later : ℕ} {t u : Bool} → 0 ≡ unless t (suc n) 0 → t ≡ u → r ≡ later → r ≡ unless u (suc n) later
+passes n {t = true} h f g = rw (← f) g
+passes n {t = false} h f g = absurd (let z : ◌≡◌ {A = ℕ} 0 (suc n) = h in omega arith)
+
 tested : (n : ℕ) {r a b : ℕ} {t u : Bool} → r ≡ unless t n a → t ≡ u → a ≡ b → r ≡ unless u n b
 tested n e f g = e ∙ rw (f, g)
 
+pub register_fails : (later : ℕ) {e x y : ℕ} → (e ≡ 0 → ⊥) → e ≡ unless (leb x 15) 3 0 → x ≡ y → e ≡ unless (leb y 15) 3 later
+register_fails later some h f = fails 3 later some h (ap (λ (x : ℕ). leb x 15) f)
+
+pub register_passes : {r x y later : ℕ} → 0 ≡ unless (leb x 15) 3 0 → x ≡ y → r ≡ later → r ≡ unless (leb y 15) 3 later
+register_passes h f g = passes 2 h (ap (λ (x : ℕ). leb x 15) f) g
+
 pub register : {r x y a b : ℕ} → r ≡ unless (leb x 15) 3 a → x ≡ y → a ≡ b → r ≡ unless (leb y 15) 3 b
 register e f g = tested 3 e (ap (λ (x : ℕ). leb x 15) f) g
+
+pub place_fails : (n later : ℕ) {e x y : ℕ} → (e ≡ 0 → ⊥) → e ≡ unless (ltb x n) 4 0 → x ≡ y → e ≡ unless (ltb y n) 4 later
+place_fails n later some h f = fails 4 later some h (ap (λ (x : ℕ). ltb x n) f)
+
+pub place_passes : (n : ℕ) {r x y later : ℕ} → 0 ≡ unless (ltb x n) 4 0 → x ≡ y → r ≡ later → r ≡ unless (ltb y n) 4 later
+place_passes n h f g = passes 3 h (ap (λ (x : ℕ). ltb x n) f) g
 
 pub place : (n : ℕ) {r x y a b : ℕ} → r ≡ unless (ltb x n) 4 a → x ≡ y → a ≡ b → r ≡ unless (ltb y n) 4 b
 place n e f g = tested 4 e (ap (λ (x : ℕ). ltb x n) f) g

@@ -11,7 +11,7 @@ ghost use Rattle.calculator_scalar.specs.Count.{as_count};
 
 use calculator_rules::shape::Kind;
 use lane_float::{F32, F64};
-use lane_integer::reinterpret::{signed8, signed16, signed32, unsigned32, unsigned64};
+use lane_integer::Lane;
 
 #[derive(Clone, Copy)]
 pub enum Scalar {
@@ -26,7 +26,7 @@ impl Scalar {
     pub fn of_bits(x: u32) -> Scalar
         ensures { scalar_of result ≡ (i32, x) }
     {
-        Scalar::I32(signed32(x))
+        Scalar::I32(x.signed())
     }
 
     // The bits; those of a kind of 32 bits are the low ones.
@@ -34,8 +34,8 @@ impl Scalar {
         ensures { result ≡ bits_of self }
     {
         match self {
-            Scalar::I32(x) => unsigned32(x) as u64,
-            Scalar::I64(x) => unsigned64(x),
+            Scalar::I32(x) => u32::of_signed(x) as u64,
+            Scalar::I64(x) => u64::of_signed(x),
             Scalar::F32(x) => x.to_bits() as u64,
             Scalar::F64(x) => x.to_bits(),
         }
@@ -58,7 +58,7 @@ impl Scalar {
         ensures { result ≡ as_count (kind_of self) (bits_of self) }
     {
         match self {
-            Scalar::I32(x) => unsigned32(x),
+            Scalar::I32(x) => u32::of_signed(x),
             _ => 0,
         }
     }
@@ -68,11 +68,11 @@ impl Scalar {
 pub fn low8(z: i32) -> i8
     ensures { modulo 8 result ≡ modulo 32 z % 2 ^ 8 }
 {
-    signed8((unsigned32(z) % 256) as u8)
+    ((u32::of_signed(z) % 256) as u8).signed()
 }
 
 pub fn low16(z: i32) -> i16
     ensures { modulo 16 result ≡ modulo 32 z % 2 ^ 16 }
 {
-    signed16((unsigned32(z) % 65536) as u16)
+    ((u32::of_signed(z) % 65536) as u16).signed()
 }

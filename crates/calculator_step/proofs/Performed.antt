@@ -135,16 +135,12 @@ module _ (place : ℕ) (m : Machine) (s : List ℕ) (op r : ℕ) (x : Shape) (o 
   judged : refusal (profile (instruction op)) m.kind s ≡ r
   judged = sym (j ∙ rw (d, profile_kept))
 
-  pub passes : (next : Machine) → r ≡ 0 → next ≡ does x (instruction op) place m s → cond (eqb r 0) (given next) (refused r) ≡ step place m s
+  pub passes : (next : Machine) → r ≡ 0 → next ≡ does x (instruction op) place m s → given next ≡ step place m s
   unfolding step
   passes next z e =
       let f : next ≡ effect (instruction op) place m s = e ∙ rw d (done (instruction op) place m s (judged ∙ z)) in
-      rw (← o, judged, f)
+      rw (← o, judged, z, f)
 
-  pub stops : (next : Machine) → (r ≡ 0 → ⊥) → cond (eqb r 0) (given next) (refused r) ≡ step place m s
+  pub stops : (r ≡ 0 → ⊥) → refused r ≡ step place m s
   unfolding step
-  stops next n = rw (← o, judged, ne_eqb r 0 n)
-
-  -- the vector that is told, where it is the destination's and where there is none
-  pub tells : (v g : ℕ) → v ≡ cond (profile_of x).gives_vector g 0 → v ≡ cond (profile (instruction (operation s))).gives_vector g 0
-  tells v g e = e ∙ rw (d, o) (ap (λ (p : Profile). cond p.gives_vector g 0) (profile_kept (instruction (operation s))))
+  stops n = rw (← o, judged, ne_eqb r 0 n)

@@ -7,7 +7,7 @@ use Rattle.standard.specs.Instruction.{Kind, Instruction, i32}
 use Rattle.calculator_rules.specs.Definition.{Machine, destination, lane, constant, indices, hold}
 use Rattle.calculator_rules.specs.Shape.{profile_of}
 use Rattle.calculator_rules.specs.declared.shape.Shape.{Shape}
-use Rattle.calculator_state.specs.Count.{as_count}
+use Rattle.calculator_scalar.specs.Count.{as_count}
 use Rattle.calculator_families.specs.Family.{given_or, as_unary, as_binary, as_ternary, as_shift, as_test, as_splat, as_extract, as_replace}
 
 -- the vector in the register that the low four bits of a byte name, and a state with a vector there

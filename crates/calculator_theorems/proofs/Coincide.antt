@@ -9,6 +9,8 @@ use Rattle.simd.specs.declared.V128.{V128}
 use Rattle.simd.proofs.Coincide.{Held, vectors_coincide}
 use Rattle.calculator_scalar.specs.Scalar.{kind_of, bits_of}
 use Rattle.calculator_rules.specs.Definition as definition
+use Rattle.standard_refusal.specs.Number.{number_of}
+use Rattle.standard_refusal.proofs.Numbers.{same_number}
 use Rattle.calculator_limits.specs.Outcome.{outcome_of}
 use Rattle.calculator.specs.Run.{ending_of}
 use Rattle.calculator_limits.specs.declared.Outcome.{Outcome}
@@ -30,7 +32,7 @@ registers_coincide (x ∷ xs) (y ∷ ys) hx hy e =
 outcomes_coincide : (a b : Outcome) → outcome_of a ≡ outcome_of b → a ≡ b
 outcomes_coincide Outcome.Ended Outcome.Ended e = refl
 outcomes_coincide (Outcome.Paused p) (Outcome.Paused q) e = ap Outcome.Paused (let z : p ≡ q = cc in z)
-outcomes_coincide (Outcome.Refused m) (Outcome.Refused n) e = ap Outcome.Refused (let z : m ≡ n = cc in z)
+outcomes_coincide (Outcome.Refused m) (Outcome.Refused n) e = ap Outcome.Refused (same_number m n (let z : number_of m ≡ number_of n = cc in z))
 outcomes_coincide Outcome.Ended (Outcome.Paused q) e = let z : ◌≡◌ {A = ℕ} 0 1 = cc in absurd (omega arith)
 outcomes_coincide Outcome.Ended (Outcome.Refused n) e = let z : ◌≡◌ {A = ℕ} 0 1 = cc in absurd (omega arith)
 outcomes_coincide (Outcome.Paused p) Outcome.Ended e = let z : ◌≡◌ {A = ℕ} 0 1 = cc in absurd (omega arith)

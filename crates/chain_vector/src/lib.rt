@@ -25,8 +25,9 @@ fn partner_of(n: u8, a: V128, b: V128, current: V128) -> V128
 fn linked(link: [u8; 17], a: V128, b: V128, current: V128) -> V128
     ensures { legal (indices link) ≡ true → number result ≡ shuffle (indices link) (number current) (partner (get_or link 0 0) (number a) (number b) (number current)) }
 {
+    let second = partner_of(link[0], a, b, current);
     current
-        .i8x16_shuffle(partner_of(link[0], a, b, current), chain::indices_of(link))
+        .i8x16_shuffle(second, chain::indices_of(link))
         .unwrap_or(current)
 }
 

@@ -7,7 +7,7 @@
 
 ghost use Rattle.std.specs.Prelude.{◌≤◌};
 
-use memory_access::{Effective, Fetched64};
+use memory_access::{Effective, fetch};
 use simd::V128;
 use std::io;
 
@@ -27,10 +27,7 @@ const XOR: u8 = 1;
 fn half(record: &[u8; 1924], from: u64, i: u64) -> u64
     requires { i ≤ 80 }
 {
-    match memory_access::fetch64(record, Effective::Sum(from, 8 * i)) {
-        Fetched64::Number(x) => x,
-        Fetched64::Past(_) => 0,
-    }
+    fetch(record, Effective::Sum(from, 8 * i)).unwrap_or(0)
 }
 
 fn row(record: &[u8; 1924], from: u64) -> [u64; 80] {

@@ -2,10 +2,8 @@
 use crate::layout::*;
 use calculator_rules::shape::Kind;
 use lane_float::{F32, F64};
-use lane_integer::reinterpret::{unsigned32, unsigned64};
-use memory_access::PAST;
-use memory_loads::LoadAnswer;
-use memory_store_answer::StoreAnswer;
+use lane_integer::Lane;
+use memory_access::AccessError;
 use simd::V128;
 use standard_refusal::Refusal;
 
@@ -42,15 +40,11 @@ impl Answer {
         }
     }
 
-    // An access past the end, with its shortfall.
-    fn past(short: u64) -> Answer {
-        let zero = V128 { lo: 0, hi: 0 };
+    // An access past the end comes with its shortfall.
+    fn error(error: AccessError) -> Answer {
         Answer {
-            refusal: PAST,
-            result: NOTHING,
-            kind: 0,
-            bits: short,
-            vector: zero,
+            bits: error.shortfall(),
+            ..Answer::refused(error.number())
         }
     }
 
@@ -104,7 +98,7 @@ impl Answer {
 
     pub fn of_i32(v: Result<i32, Refusal>) -> Answer {
         match v {
-            Ok(x) => Answer::u32(unsigned32(x)),
+            Ok(x) => Answer::u32(u32::of_signed(x)),
             Err(refusal) => Answer::refused(u8::from(refusal)),
         }
     }
@@ -118,7 +112,7 @@ impl Answer {
 
     pub fn of_i64(v: Result<i64, Refusal>) -> Answer {
         match v {
-            Ok(x) => Answer::scalar(Kind::I64, unsigned64(x)),
+            Ok(x) => Answer::scalar(Kind::I64, u64::of_signed(x)),
             Err(refusal) => Answer::refused(u8::from(refusal)),
         }
     }
@@ -137,20 +131,18 @@ impl Answer {
         }
     }
 
-    pub fn of_load(v: LoadAnswer) -> Answer {
+    pub fn of_load(v: Result<V128, AccessError>) -> Answer {
         match v {
-            LoadAnswer::Vector(x) => Answer::vector(x),
-            LoadAnswer::Refused(number) => Answer::refused(number),
-            LoadAnswer::Past(short) => Answer::past(short),
+            Ok(x) => Answer::vector(x),
+            Err(error) => Answer::error(error),
         }
     }
 
     // A store has no result: what it wrote is in the memory.
-    pub fn of_store(v: StoreAnswer) -> Answer {
+    pub fn of_store(v: Result<(), AccessError>) -> Answer {
         match v {
-            StoreAnswer::Done => Answer::of_bits(NOTHING, 0, 0),
-            StoreAnswer::Refused(number) => Answer::refused(number),
-            StoreAnswer::Past(short) => Answer::past(short),
+            Ok(()) => Answer::of_bits(NOTHING, 0, 0),
+            Err(error) => Answer::error(error),
         }
     }
 

@@ -2,7 +2,7 @@
 use crate::answer::Answer;
 use crate::layout::{low8, low16, low32};
 use lane_float::{F32, F64};
-use lane_integer::reinterpret::{signed8, signed16, signed32, signed64};
+use lane_integer::Lane;
 use simd::V128;
 
 pub fn extract(f: u16, a: V128, lane: u8) -> Answer {
@@ -22,10 +22,10 @@ pub fn extract(f: u16, a: V128, lane: u8) -> Answer {
 // The scalar operand as in `splat`.
 pub fn replace(f: u16, a: V128, lane: u8, scalar: u64) -> Answer {
     match f {
-        14 => Answer::of_vector(a.i64x2_replace_lane(lane, signed64(scalar))),
-        15 => Answer::of_vector(a.i32x4_replace_lane(lane, signed32(low32(scalar)))),
-        16 => Answer::of_vector(a.i16x8_replace_lane(lane, signed16(low16(scalar)))),
-        17 => Answer::of_vector(a.i8x16_replace_lane(lane, signed8(low8(scalar)))),
+        14 => Answer::of_vector(a.i64x2_replace_lane(lane, scalar.signed())),
+        15 => Answer::of_vector(a.i32x4_replace_lane(lane, low32(scalar).signed())),
+        16 => Answer::of_vector(a.i16x8_replace_lane(lane, low16(scalar).signed())),
+        17 => Answer::of_vector(a.i8x16_replace_lane(lane, low8(scalar).signed())),
         18 => Answer::of_vector(a.f64x2_replace_lane(lane, F64::from_bits(scalar))),
         19 => Answer::of_vector(a.f32x4_replace_lane(lane, F32::from_bits(low32(scalar)))),
         _ => Answer::none(),

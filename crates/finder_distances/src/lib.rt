@@ -49,7 +49,7 @@ fn row(
 )
     requires bit_bound { bit < 8 }
     requires k_bound { k < 8 }
-    requires by_index { (j : ℕ) → j < 33 → get_or nexts.now j 0 < 256 }
+    requires nexts_are_bytes { (j : ℕ) → j < 33 → get_or nexts.now j 0 < 256 }
     ensures { (bs : List ℕ) (byte : ℕ) → byte + 37 ≤ length bs → Spread bs byte heads.now nexts.now 33 → Laid bs (8 * byte + bit) marker away.old (32 * k) → Laid bs (8 * byte + bit) marker away.new (32 * k + 32) }
 {
     let skip = (bit + k) / 8;

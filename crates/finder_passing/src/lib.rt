@@ -38,9 +38,9 @@ fn passes<'a>(buffer: &'a [u8], at: usize, n: usize, last: usize, table: &'a [u6
     requires at_le_last { at ≤ last }
     requires last_in_bounds { last + 4 ≤ length buffer.now }
     requires n_bound { n ≤ 8 }
-    ensures n_bound_2 { result ≡ true → at + n ≤ last }
-    ensures by_index { (m t : ℕ) → m < 2 ^ 32 → Columns m t table.now → result ≡ true → Far buffer.now m t at (at + n) }
-    ensures by_index_2 { (m t : ℕ) → m < 2 ^ 32 → Columns m t table.now → at + n ≤ last → Far buffer.now m t at (at + n) → result ≡ true }
+    ensures within { result ≡ true → at + n ≤ last }
+    ensures far { (m t : ℕ) → m < 2 ^ 32 → Columns m t table.now → result ≡ true → Far buffer.now m t at (at + n) }
+    ensures all_far { (m t : ℕ) → m < 2 ^ 32 → Columns m t table.now → at + n ≤ last → Far buffer.now m t at (at + n) → result ≡ true }
 {
     if last - at < n {
         return false;
@@ -58,9 +58,9 @@ fn passed<'a>(buffer: &'a [u8], from: usize, n: usize, last: usize, table: &'a [
     requires last_in_bounds { last + 4 ≤ length buffer.now }
     requires le_n { 1 ≤ n }
     requires n_bound { n ≤ 8 }
-    ensures lower_bound { (from ≤ result) × (result ≤ last) }
-    ensures by_index { (m t : ℕ) → m < 2 ^ 32 → Columns m t table.now → Far buffer.now m t from result }
-    ensures by_index_2 { (m t : ℕ) → m < 2 ^ 32 → Columns m t table.now → result + n ≤ last → Far buffer.now m t result (result + n) → ⊥ }
+    ensures within { (from ≤ result) × (result ≤ last) }
+    ensures far { (m t : ℕ) → m < 2 ^ 32 → Columns m t table.now → Far buffer.now m t from result }
+    ensures stops { (m t : ℕ) → m < 2 ^ 32 → Columns m t table.now → result + n ≤ last → Far buffer.now m t result (result + n) → ⊥ }
 {
     let mut at = from;
     while passes(buffer, at, n, last, table) {
@@ -73,11 +73,7 @@ fn passed<'a>(buffer: &'a [u8], from: usize, n: usize, last: usize, table: &'a [
 fn inside(buffer: &[u8], end: usize) -> usize
     ensures { result ≡ min end (length buffer.now - 4) }
 {
-    let n = buffer.len();
-    if n < 4 {
-        return 0;
-    }
-    if end < n - 4 { end } else { n - 4 }
+    end.min(buffer.len().saturating_sub(4))
 }
 
 // The first byte from a byte on, below an end, in which a window within the tolerance begins. A byte is asked alone first: windows that are near come together.

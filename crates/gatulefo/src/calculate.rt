@@ -20,11 +20,16 @@ pub extern "C" fn gatulefo_step(
 ) -> StepAnswer
     ensures { step_numbers (vectors registers.new) writers.new result ≡ left_by_step (machine_told registers.old writers.old scalar.kind scalar.bits) (Definition.step place (machine_told registers.old writers.old scalar.kind scalar.bits) step.now) }
 {
-    let stepped = calculator_step::step(registers, writers, scalar_of(scalar), place, step);
-    let left = stepped.scalar;
-    StepAnswer {
-        scalar: kind_and_bits(left),
-        refused: stepped.refused,
+    let held = scalar_of(scalar);
+    match calculator_step::step(registers, writers, held, place, step) {
+        Ok(left) => StepAnswer {
+            scalar: kind_and_bits(left.scalar),
+            refused: 0,
+        },
+        Err(refusal) => StepAnswer {
+            scalar: kind_and_bits(held),
+            refused: u8::from(refusal),
+        },
     }
 }
 
@@ -48,7 +53,5 @@ pub extern "C" fn gatulefo_run(
         place,
         limit,
     );
-    let left = stopped.scalar;
-    let outcome = stopped.outcome;
-    run_answer(kind_and_bits(left), stopped.done, outcome)
+    run_answer(kind_and_bits(stopped.scalar), stopped.done, stopped.outcome)
 }

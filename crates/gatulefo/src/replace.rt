@@ -13,82 +13,82 @@ use simd::V128;
 pub extern "C" fn gatulefo_i64x2_replace_lane(v: V128, lane: u8, bits: u64) -> VectorOrRefusal
     ensures { (number result.vector, result.refused) ≡ pair (at_lane 64 lane (replace 64 (number v) lane bits)) }
 {
-    of_vector(v.replace64(lane, bits))
+    of_vector(u64::replace(v, lane, bits))
 }
 
 #[unsafe(no_mangle)]
 pub extern "C" fn gatulefo_i32x4_replace_lane(v: V128, lane: u8, bits: u32) -> VectorOrRefusal
     ensures { (number result.vector, result.refused) ≡ pair (at_lane 32 lane (replace 32 (number v) lane bits)) }
 {
-    of_vector(v.replace32(lane, bits))
+    of_vector(u32::replace(v, lane, bits))
 }
 
 #[unsafe(no_mangle)]
 pub extern "C" fn gatulefo_i16x8_replace_lane(v: V128, lane: u8, bits: u16) -> VectorOrRefusal
     ensures { (number result.vector, result.refused) ≡ pair (at_lane 16 lane (replace 16 (number v) lane bits)) }
 {
-    of_vector(v.replace16(lane, bits))
+    of_vector(u16::replace(v, lane, bits))
 }
 
 #[unsafe(no_mangle)]
 pub extern "C" fn gatulefo_i8x16_replace_lane(v: V128, lane: u8, bits: u8) -> VectorOrRefusal
     ensures { (number result.vector, result.refused) ≡ pair (at_lane 8 lane (replace 8 (number v) lane bits)) }
 {
-    of_vector(v.replace8(lane, bits))
+    of_vector(u8::replace(v, lane, bits))
 }
 
 #[unsafe(no_mangle)]
 pub extern "C" fn gatulefo_f64x2_replace_lane(v: V128, lane: u8, bits: u64) -> VectorOrRefusal
     ensures { (number result.vector, result.refused) ≡ pair (at_lane 64 lane (replace 64 (number v) lane bits)) }
 {
-    of_vector(v.replace64(lane, bits))
+    of_vector(u64::replace(v, lane, bits))
 }
 
 #[unsafe(no_mangle)]
 pub extern "C" fn gatulefo_f32x4_replace_lane(v: V128, lane: u8, bits: u32) -> VectorOrRefusal
     ensures { (number result.vector, result.refused) ≡ pair (at_lane 32 lane (replace 32 (number v) lane bits)) }
 {
-    of_vector(v.replace32(lane, bits))
+    of_vector(u32::replace(v, lane, bits))
 }
 
 #[unsafe(no_mangle)]
 pub extern "C" fn gatulefo_value_i64x2_replace_lane(v: V128, lane: u8, bits: u64) -> V128
     ensures { number result ≡ or_zero (at_lane 64 lane (replace 64 (number v) lane bits)) }
 {
-    vector_or_zero(v.replace64(lane, bits))
+    vector_or_zero(u64::replace(v, lane, bits))
 }
 
 #[unsafe(no_mangle)]
 pub extern "C" fn gatulefo_value_i32x4_replace_lane(v: V128, lane: u8, bits: u32) -> V128
     ensures { number result ≡ or_zero (at_lane 32 lane (replace 32 (number v) lane bits)) }
 {
-    vector_or_zero(v.replace32(lane, bits))
+    vector_or_zero(u32::replace(v, lane, bits))
 }
 
 #[unsafe(no_mangle)]
 pub extern "C" fn gatulefo_value_i16x8_replace_lane(v: V128, lane: u8, bits: u16) -> V128
     ensures { number result ≡ or_zero (at_lane 16 lane (replace 16 (number v) lane bits)) }
 {
-    vector_or_zero(v.replace16(lane, bits))
+    vector_or_zero(u16::replace(v, lane, bits))
 }
 
 #[unsafe(no_mangle)]
 pub extern "C" fn gatulefo_value_i8x16_replace_lane(v: V128, lane: u8, bits: u8) -> V128
     ensures { number result ≡ or_zero (at_lane 8 lane (replace 8 (number v) lane bits)) }
 {
-    vector_or_zero(v.replace8(lane, bits))
+    vector_or_zero(u8::replace(v, lane, bits))
 }
 
 #[unsafe(no_mangle)]
 pub extern "C" fn gatulefo_value_f64x2_replace_lane(v: V128, lane: u8, bits: u64) -> V128
     ensures { number result ≡ or_zero (at_lane 64 lane (replace 64 (number v) lane bits)) }
 {
-    vector_or_zero(v.replace64(lane, bits))
+    vector_or_zero(u64::replace(v, lane, bits))
 }
 
 #[unsafe(no_mangle)]
 pub extern "C" fn gatulefo_value_f32x4_replace_lane(v: V128, lane: u8, bits: u32) -> V128
     ensures { number result ≡ or_zero (at_lane 32 lane (replace 32 (number v) lane bits)) }
 {
-    vector_or_zero(v.replace32(lane, bits))
+    vector_or_zero(u32::replace(v, lane, bits))
 }

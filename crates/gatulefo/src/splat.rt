@@ -9,40 +9,40 @@ use simd::V128;
 pub extern "C" fn gatulefo_i64x2_splat(bits: u64) -> V128
     ensures { number result ≡ splat 64 bits }
 {
-    V128::splat64(bits)
+    u64::splat(bits)
 }
 
 #[unsafe(no_mangle)]
 pub extern "C" fn gatulefo_i32x4_splat(bits: u32) -> V128
     ensures { number result ≡ splat 32 bits }
 {
-    V128::splat32(bits)
+    u32::splat(bits)
 }
 
 #[unsafe(no_mangle)]
 pub extern "C" fn gatulefo_i16x8_splat(bits: u16) -> V128
     ensures { number result ≡ splat 16 bits }
 {
-    V128::splat16(bits)
+    u16::splat(bits)
 }
 
 #[unsafe(no_mangle)]
 pub extern "C" fn gatulefo_i8x16_splat(bits: u8) -> V128
     ensures { number result ≡ splat 8 bits }
 {
-    V128::splat8(bits)
+    u8::splat(bits)
 }
 
 #[unsafe(no_mangle)]
 pub extern "C" fn gatulefo_f32x4_splat(bits: u32) -> V128
     ensures { number result ≡ splat 32 bits }
 {
-    V128::splat32(bits)
+    u32::splat(bits)
 }
 
 #[unsafe(no_mangle)]
 pub extern "C" fn gatulefo_f64x2_splat(bits: u64) -> V128
     ensures { number result ≡ splat 64 bits }
 {
-    V128::splat64(bits)
+    u64::splat(bits)
 }

@@ -17,7 +17,7 @@ fn put_stop(out: &mut [u8], at: usize, outcome: Outcome) -> usize
     match outcome {
         Outcome::Ended => put(out, at, b" ended"),
         Outcome::Paused(place) => put_number(out, at, b" paused ", place as u64),
-        Outcome::Refused(number) => put_number(out, at, b" refused ", number as u64),
+        Outcome::Refused(refusal) => put_number(out, at, b" refused ", u8::from(refusal) as u64),
     }
 }
 
@@ -45,7 +45,9 @@ fn put_calls(out: &mut [u8], list: &[u8], place: u32, limit: u32) -> usize
         next = put_call(out, next, ending.done, outcome);
         match outcome {
             Outcome::Ended => return put_listing(out, next, state, done, 0),
-            Outcome::Refused(number) => return put_listing(out, next, state, done, number),
+            Outcome::Refused(refusal) => {
+                return put_listing(out, next, state, done, u8::from(refusal));
+            }
             Outcome::Paused(place) => {
                 if limit == 0 {
                     return put_listing(out, next, state, done, 0);

@@ -6,7 +6,6 @@
 mod calls;
 
 use calls::lease;
-use program_arguments::Numeral;
 use program_system::{argument, complain, has_argument, tell_status};
 use std::rt::Env;
 
@@ -16,34 +15,25 @@ struct Task {
     limit: u32,
 }
 
-#[derive(Drop)]
-enum Asked {
-    For(Task),
-    Badly,
-}
-
 // An argument of Linux has fewer than 131,072 bytes, so each comes whole, whatever zeros it begins with.
-fn decimal_at(env: &impl Env, i: usize) -> Numeral {
+fn decimal_at(env: &impl Env, i: usize) -> Option<u32> {
     let mut text = [0u8; 131072];
     let n = argument(env, i, &mut text);
     program_arguments::decimal(&text[..n])
 }
 
-fn read_arguments(env: &impl Env) -> Asked {
+fn read_arguments(env: &impl Env) -> Option<Task> {
     if !has_argument(env, 2) || has_argument(env, 3) {
-        return Asked::Badly;
+        return None;
     }
-    let Numeral::Number(place) = decimal_at(env, 1) else {
-        return Asked::Badly;
-    };
-    let Numeral::Number(limit) = decimal_at(env, 2) else {
-        return Asked::Badly;
-    };
-    Asked::For(Task { place, limit })
+    Some(Task {
+        place: decimal_at(env, 1)?,
+        limit: decimal_at(env, 2)?,
+    })
 }
 
 fn main(rt: HostRuntime) {
-    let Asked::For(task) = read_arguments(&rt) else {
+    let Some(task) = read_arguments(&rt) else {
         let _ = eprintln!(rt;
             "lease: expected a place and a limit in decimal, both below 4294967296, and a step list on standard input: ./lease PLACE LIMIT < LIST"
         );

@@ -5,13 +5,11 @@ ghost use Rattle.std.specs.Prelude.{ℕ, List, ◌≡◌};
 ghost use Rattle.simd.specs.Answers.{vector_answer, i32_answer, u32_answer, i64_answer};
 ghost use Rattle.simd.specs.Number.{number};
 ghost use Rattle.memory_loads.specs.LoadAnswer.{load_answer};
-ghost use Rattle.memory_store_answer.specs.StoreAnswer.{store_answer};
+ghost use Rattle.memory_access.specs.AccessError.{store_answer};
 ghost use Rattle.link_answers.specs.Handed.{pair, or_zero, access_numbers, access_or_zero, store_numbers};
 
-use lane_integer::reinterpret::{unsigned32, unsigned64};
-use memory_bounds::PAST;
-use memory_loads::LoadAnswer;
-use memory_store_answer::StoreAnswer;
+use lane_integer::Lane;
+use memory_access::AccessError;
 use simd::V128;
 use standard_refusal::Refusal;
 
@@ -61,7 +59,7 @@ pub fn of_i32(answer: Result<i32, Refusal>) -> BitsOrRefusal
 {
     match answer {
         Ok(value) => BitsOrRefusal {
-            bits: wide(unsigned32(value)),
+            bits: wide(u32::of_signed(value)),
             refused: 0,
         },
         Err(refusal) => BitsOrRefusal {
@@ -93,7 +91,7 @@ pub fn of_i64(answer: Result<i64, Refusal>) -> BitsOrRefusal
 {
     match answer {
         Ok(value) => BitsOrRefusal {
-            bits: unsigned64(value),
+            bits: u64::of_signed(value),
             refused: 0,
         },
         Err(refusal) => BitsOrRefusal {
@@ -126,59 +124,44 @@ pub fn vector_or_zero(answer: Result<V128, Refusal>) -> V128
     }
 }
 
-fn nothing_loaded(refused: u8, shortfall: u64) -> Loaded
-    ensures { ◌≡◌ {A = ℕ × ℕ × ℕ} (number result.vector, result.shortfall, result.refused) (0, shortfall, refused) }
-{
-    Loaded {
-        vector: V128 { lo: 0, hi: 0 },
-        shortfall,
-        refused,
-    }
-}
-
 #[tactic(auto, unfolding(crate::specs::Handed::access_numbers))]
-pub fn of_load(answer: LoadAnswer) -> Loaded
+pub fn of_load(answer: Result<V128, AccessError>) -> Loaded
     ensures { (number result.vector, result.shortfall, result.refused) ≡ access_numbers (load_answer answer) }
 {
     match answer {
-        LoadAnswer::Vector(vector) => Loaded {
+        Ok(vector) => Loaded {
             vector,
             shortfall: 0,
             refused: 0,
         },
-        LoadAnswer::Refused(refused) => nothing_loaded(refused, 0),
-        LoadAnswer::Past(shortfall) => nothing_loaded(PAST, shortfall),
+        Err(error) => Loaded {
+            vector: V128 { lo: 0, hi: 0 },
+            shortfall: error.shortfall(),
+            refused: error.number(),
+        },
     }
 }
 
 #[tactic(auto, unfolding(crate::specs::Handed::access_or_zero, crate::specs::Handed::or_zero))]
-pub fn load_or_zero(answer: LoadAnswer) -> V128
-    ensures { number result ≡ access_or_zero (load_answer answer) }
+pub fn load_or_zero(loaded: Result<V128, AccessError>) -> V128
+    ensures { number result ≡ access_or_zero (load_answer loaded) }
 {
-    match answer {
-        LoadAnswer::Vector(vector) => vector,
-        LoadAnswer::Refused(_) => V128 { lo: 0, hi: 0 },
-        LoadAnswer::Past(_) => V128 { lo: 0, hi: 0 },
-    }
+    loaded.unwrap_or(V128 { lo: 0, hi: 0 })
 }
 
 // Whatever memory the store leaves.
 #[tactic(auto, unfolding(crate::specs::Handed::store_numbers))]
-pub fn of_store(answer: StoreAnswer) -> Stored
+pub fn of_store(answer: Result<(), AccessError>) -> Stored
     ensures { (after : List ℕ) → (result.shortfall, result.refused, after) ≡ store_numbers (store_answer answer after) }
 {
     match answer {
-        StoreAnswer::Done => Stored {
+        Ok(()) => Stored {
             shortfall: 0,
             refused: 0,
         },
-        StoreAnswer::Refused(refused) => Stored {
-            shortfall: 0,
-            refused,
-        },
-        StoreAnswer::Past(shortfall) => Stored {
-            shortfall,
-            refused: PAST,
+        Err(why) => Stored {
+            shortfall: why.shortfall(),
+            refused: why.number(),
         },
     }
 }

@@ -7,9 +7,8 @@ ghost use Rattle.link_station.specs.Calculate.{told, scalar_numbers, stop_number
 
 use calculator_limits::Outcome;
 use calculator_scalar::Scalar;
-use calculator_state::kind;
 use lane_float::{F32, F64};
-use lane_integer::reinterpret::signed64;
+use lane_integer::Lane;
 
 // The calculator's scalar. Kind 0 is an i32, 1 an i64, 2 an f32, 3 an f64, as in a recording, and any other stands for 0; of a kind of 32 bits the low bits
 // count.
@@ -49,7 +48,7 @@ fn low32(x: u64) -> u32
 fn i64_of(bits: u64) -> Scalar
     ensures { scalar_of result ≡ (i64, bits) }
 {
-    Scalar::I64(signed64(bits))
+    Scalar::I64(bits.signed())
 }
 
 fn f32_of(bits: u32) -> Scalar
@@ -85,7 +84,7 @@ pub fn kind_and_bits(scalar: Scalar) -> KindAndBits
     ensures { (result.kind, result.bits) ≡ scalar_numbers (kind_of scalar) (bits_of scalar) }
 {
     KindAndBits {
-        kind: kind(scalar).number(),
+        kind: scalar.kind().number(),
         bits: scalar.bits(),
     }
 }
@@ -108,12 +107,12 @@ pub fn run_answer(scalar: KindAndBits, done: usize, outcome: Outcome) -> RunAnsw
             paused: true,
             refused: 0,
         },
-        Outcome::Refused(refused) => RunAnswer {
+        Outcome::Refused(refusal) => RunAnswer {
             scalar,
             done,
             place: 0,
             paused: false,
-            refused,
+            refused: u8::from(refusal),
         },
     }
 }

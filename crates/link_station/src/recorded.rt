@@ -4,8 +4,9 @@ ghost use Rattle.recording_rules.specs.Recorded.{recorded_of};
 ghost use Rattle.recording_compare.specs.Verdict.{answer_of};
 ghost use Rattle.link_station.specs.Recording.{recorder_numbers, record_numbers, replayed, replay_numbers};
 
-use recording_compare::Answer;
+use recording_compare::Verdict;
 use recording_rules::Recorded;
+use standard_refusal::Refusal;
 
 // How many bytes were written. None where the list has no step, the recording would overflow the buffer, or the list is refused: the number, 1; else 0.
 #[repr(C)]
@@ -56,21 +57,22 @@ pub fn record_answer(answer: Recorded) -> RecordAnswer
     }
 }
 
-pub fn replay_answer(answer: Answer) -> ReplayAnswer
+#[tactic(auto, unfolding(crate::specs::Recording::replayed))]
+pub fn replay_answer(answer: Result<Verdict, Refusal>) -> ReplayAnswer
     ensures { replay_numbers result ≡ replayed (answer_of answer) }
 {
     match answer {
-        Answer::Agrees => ReplayAnswer {
+        Ok(Verdict::Agrees) => ReplayAnswer {
             differs: 0,
             refused: 0,
         },
-        Answer::Differs(differs) => ReplayAnswer {
+        Ok(Verdict::Differs(differs)) => ReplayAnswer {
             differs,
             refused: 0,
         },
-        Answer::Refused(refused) => ReplayAnswer {
+        Err(refusal) => ReplayAnswer {
             differs: 0,
-            refused,
+            refused: u8::from(refusal),
         },
     }
 }

@@ -7,7 +7,6 @@ ghost use Rattle.finder_windows.specs.Definition.{find};
 ghost use Rattle.program_digits.specs.Put.{Filled};
 ghost use Rattle.program_reports.specs.Lines.{marker};
 
-use program_arguments::Numeral;
 use program_system::{argument, complain, has_argument, tell_status};
 use std::rt::Env;
 
@@ -16,12 +15,6 @@ struct Task {
     marker: u32,
     tolerance: u32,
     length: u32,
-}
-
-#[derive(Drop)]
-enum Asked {
-    For(Task),
-    Badly,
 }
 
 // All bytes that the program writes of a buffer.
@@ -46,35 +39,26 @@ fn report(rt: &HostRuntime, buffer: &[u8], task: Task) {
 }
 
 // An argument of Linux has fewer than 131,072 bytes, so each comes whole, whatever zeros it begins with.
-fn decimal_at(env: &impl Env, i: usize) -> Numeral {
+fn decimal_at(env: &impl Env, i: usize) -> Option<u32> {
     let mut text = [0u8; 131072];
     let n = argument(env, i, &mut text);
     program_arguments::decimal(&text[..n])
 }
 
-fn marker_at(env: &impl Env, i: usize) -> Numeral {
+fn marker_at(env: &impl Env, i: usize) -> Option<u32> {
     let mut text = [0u8; 8];
     let n = argument(env, i, &mut text);
     program_arguments::eight_hex_digits(&text[..n])
 }
 
-fn read_arguments(env: &impl Env) -> Asked {
+fn read_arguments(env: &impl Env) -> Option<Task> {
     if !has_argument(env, 3) || has_argument(env, 4) {
-        return Asked::Badly;
+        return None;
     }
-    let Numeral::Number(marker) = marker_at(env, 1) else {
-        return Asked::Badly;
-    };
-    let Numeral::Number(tolerance) = decimal_at(env, 2) else {
-        return Asked::Badly;
-    };
-    let Numeral::Number(length) = decimal_at(env, 3) else {
-        return Asked::Badly;
-    };
-    Asked::For(Task {
-        marker,
-        tolerance,
-        length,
+    Some(Task {
+        marker: marker_at(env, 1)?,
+        tolerance: decimal_at(env, 2)?,
+        length: decimal_at(env, 3)?,
     })
 }
 
@@ -86,7 +70,7 @@ fn is_decided(task: Task) -> bool
 }
 
 fn main(rt: HostRuntime) {
-    let Asked::For(task) = read_arguments(&rt) else {
+    let Some(task) = read_arguments(&rt) else {
         let _ = eprintln!(rt;
             "marker: expected a marker of eight hex digits, a tolerance and a frame length in decimal, both below 4294967296"
         );

@@ -1,56 +1,48 @@
 -- One law for each shape of load and store, over the width: what is made of the number that was loaded, and a lane that is judged before the bounds.
 -- Assumes nothing.
-use mathlib.Core.Path.{◌≡◌, refl, ap, ◌∙◌}
-use mathlib.Core.List.{List}
-use Prim.Native.Nat.{ℕ, ◌/◌, ◌<◌, ◌≤◌}
-use borrow.Author.Tests.{lt-ltb, le-ltb}
+use Rattle.std.proofs.Common.{◌≡◌, ℕ, ◌+◌, ◌/◌, ◌<◌, ◌≤◌, Bool, true, false, cond, leb, List, length, refl}
+use Rattle.std.proofs.lemmas.Bool.{lt-ltb, le-ltb}
 use Rattle.standard.specs.Lanes.{splat, extract, replace}
-use Rattle.standard.specs.Refusal.{Answer, given, refused, at_lane}
+use Rattle.standard.specs.Refusal.{given, refused}
 use Rattle.standard.specs.Vector.{widen}
-use Rattle.standard.specs.Memory.{answered, past, number_at, load, load_splat, load_widen, load_lane, store, store_lane, Stored, kept, stored}
-use Rattle.memory_bounds.proofs.Bounds.{onward, handed_on}
+use Rattle.standard.specs.Memory.{Accessed, within, answered, past, shortfall, number_at, load, load_splat, load_widen, load_lane, store, store_lane}
 
-module _ (m : List ℕ) (at : ℕ) where
-  pub loaded : (n : ℕ) {x v : ℕ} → answered (given x) ≡ load n m at → v ≡ x → answered (given v) ≡ load n m at
-  loaded n p q = ap (λ (x : ℕ). answered (given x)) q ∙ p
+-- what is made of the number of an access that is allowed
+abbrev pub mapped : (ℕ → ℕ) → Accessed ℕ → Accessed ℕ
+mapped f (answered (given x)) = answered (given (f x))
+mapped f (answered (refused n)) = answered (refused n)
+mapped f (past n s) = past n s
 
-  pub splatted : (w : ℕ) {x v : ℕ} → answered (given x) ≡ load (w / 8) m at → v ≡ splat w x → answered (given v) ≡ load_splat w m at
-  unfolding load load_splat
-  splatted w p q = onward m at (w / 8) (number_at m at (w / 8)) (splat w) p q
+within_maps : (f : ℕ → ℕ) (m : List ℕ) (at n x : ℕ) → within m at n (f x) ≡ mapped f (within m at n x)
+unfolding within
+within_maps f m at n x = by_test (leb (at + n) (length m))
+  where
+    by_test : (t : Bool) → cond t (answered (given (f x))) (past 7 (shortfall m at n)) ≡ mapped f (cond t (answered (given x)) (past 7 (shortfall m at n)))
+    by_test true = refl
+    by_test false = refl
 
-  pub unsplatted : {s : ℕ} (w : ℕ) → past 7 s ≡ load (w / 8) m at → past 7 s ≡ load_splat w m at
-  unfolding load load_splat
-  unsplatted w p = handed_on m at (w / 8) (number_at m at (w / 8)) (splat w (number_at m at (w / 8))) p
+pub splat_maps : (w : ℕ) (m : List ℕ) (at : ℕ) → load_splat w m at ≡ mapped (splat w) (load (w / 8) m at)
+unfolding load load_splat
+splat_maps w m at = within_maps (splat w) m at (w / 8) (number_at m at (w / 8))
 
-  pub widened : (sx : ℕ → ℕ → ℕ → ℕ) (w : ℕ) {x v : ℕ} → answered (given x) ≡ load 8 m at → v ≡ widen sx w x → answered (given v) ≡ load_widen sx w m at
-  unfolding load load_widen
-  widened sx w p q = onward m at 8 (number_at m at 8) (widen sx w) p q
+pub widen_maps : (sx : ℕ → ℕ → ℕ → ℕ) (w : ℕ) (m : List ℕ) (at : ℕ) → load_widen sx w m at ≡ mapped (widen sx w) (load 8 m at)
+unfolding load load_widen
+widen_maps sx w m at = within_maps (widen sx w) m at 8 (number_at m at 8)
 
-  pub unwidened : {s : ℕ} (sx : ℕ → ℕ → ℕ → ℕ) (w : ℕ) → past 7 s ≡ load 8 m at → past 7 s ≡ load_widen sx w m at
-  unfolding load load_widen
-  unwidened sx w p = handed_on m at 8 (number_at m at 8) (widen sx w (number_at m at 8)) p
+-- a lane is judged before the bounds
+pub lane_load_maps : (w x lane : ℕ) (m : List ℕ) (at : ℕ) → lane < 128 / w → load_lane w x lane m at ≡ mapped (replace w x lane) (load (w / 8) m at)
+unfolding load load_lane
+lane_load_maps w x lane m at h =
+    rw (lt-ltb lane (128 / w) h) (within_maps (replace w x lane) m at (w / 8) (number_at m at (w / 8)))
 
-  module _ (x w lane : ℕ) where
-    pub lane_loaded : {c : ℕ} {a : Answer ℕ} → lane < 128 / w → answered (given c) ≡ load (w / 8) m at → a ≡ at_lane w lane (replace w x lane c)
-        → answered a ≡ load_lane w x lane m at
-    unfolding load load_lane
-    lane_loaded h p q =
-        rw (lt-ltb lane (128 / w) h)
-        (ap answered (rw (lt-ltb lane (128 / w) h) at q) ∙ onward m at (w / 8) (number_at m at (w / 8)) (replace w x lane) p refl)
+pub no_lane_load : (w x lane : ℕ) (m : List ℕ) (at : ℕ) → 128 / w ≤ lane → load_lane w x lane m at ≡ answered (refused 4)
+unfolding load_lane
+no_lane_load w x lane m at h = rw (le-ltb lane (128 / w) h)
 
-    pub lane_unloaded : {s : ℕ} → lane < 128 / w → past 7 s ≡ load (w / 8) m at → past 7 s ≡ load_lane w x lane m at
-    unfolding load load_lane
-    lane_unloaded h p = rw (lt-ltb lane (128 / w) h) (handed_on m at (w / 8) (number_at m at (w / 8)) (replace w x lane (number_at m at (w / 8))) p)
+pub lane_store_is : (w x lane : ℕ) (m : List ℕ) (at : ℕ) → lane < 128 / w → store_lane w x lane m at ≡ store (w / 8) (extract w x lane) m at
+unfolding store_lane
+lane_store_is w x lane m at h = rw (lt-ltb lane (128 / w) h)
 
-    pub lane_not_loaded : 128 / w ≤ lane → answered (refused 4) ≡ load_lane w x lane m at
-    unfolding load_lane
-    lane_not_loaded h = rw (le-ltb lane (128 / w) h)
-
-    pub lane_stored : {c : ℕ} {a : Stored} → lane < 128 / w → c ≡ extract w x lane → a ≡ stored (store (w / 8) c m at) m → a
-        ≡ stored (store_lane w x lane m at) m
-    unfolding store_lane
-    lane_stored h e q = rw (lt-ltb lane (128 / w) h, ← e) q
-
-    pub lane_not_stored : 128 / w ≤ lane → kept 4 m ≡ stored (store_lane w x lane m at) m
-    unfolding store_lane
-    lane_not_stored h = rw (le-ltb lane (128 / w) h)
+pub no_lane_store : (w x lane : ℕ) (m : List ℕ) (at : ℕ) → 128 / w ≤ lane → store_lane w x lane m at ≡ answered (refused 4)
+unfolding store_lane
+no_lane_store w x lane m at h = rw (le-ltb lane (128 / w) h)

@@ -1,11 +1,12 @@
 -- What an answer of a load stands for.
-use Rattle.std.specs.Prelude.{ℕ}
-use Rattle.standard.specs.Refusal.{given, refused}
-use Rattle.standard.specs.Memory.{Accessed, answered, past}
+use Rattle.std.specs.Prelude.{ℕ, Result, Ok, Err}
+use Rattle.standard.specs.Refusal.{given}
+use Rattle.standard.specs.Memory.{Accessed, answered}
+use Rattle.memory_access.specs.declared.AccessError.{AccessError}
+use Rattle.memory_access.specs.AccessError.{refused_access}
+use Rattle.simd.specs.declared.V128.{V128}
 use Rattle.simd.specs.Number.{number}
-use Rattle.memory_loads.specs.declared.LoadAnswer.{LoadAnswer}
 
-abbrev pub load_answer : LoadAnswer → Accessed ℕ
-load_answer (LoadAnswer.Vector v) = answered (given (number v))
-load_answer (LoadAnswer.Refused n) = answered (refused n)
-load_answer (LoadAnswer.Past short) = past 7 short
+abbrev pub load_answer : Result V128 AccessError → Accessed ℕ
+load_answer (Ok v) = answered (given (number v))
+load_answer (Err error) = refused_access error

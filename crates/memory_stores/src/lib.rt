@@ -6,63 +6,59 @@
 ghost use Rattle.std.specs.Prelude.{◌≡◌, ◌+◌};
 ghost use Rattle.standard.specs.Memory.{store, store_lane, stored};
 ghost use Rattle.memory_bounds.specs.Bounds.{effective};
+ghost use Rattle.memory_access.specs.AccessError.{store_answer};
 ghost use Rattle.simd.specs.Number.{number};
-ghost use Rattle.memory_store_answer.specs.StoreAnswer.{store_answer};
 
-use memory_access::{Effective, put8, put16, put32, put64, put128};
-use memory_store_answer::{StoreAnswer, answered};
-use simd::V128;
-use standard_refusal::Refusal;
+use memory_access::{AccessError, Effective, Halves, put};
+use simd::{Lanes, V128};
+use standard_refusal::lane_below;
 
-fn store_to(memory: &mut [u8], ea: Effective, value: V128) -> StoreAnswer
+fn store_to(memory: &mut [u8], ea: Effective, value: V128) -> Result<(), AccessError>
     ensures { store_answer result memory.new ≡ stored (store 16 (number value) memory.old (effective ea)) memory.old }
 {
-    answered(put128(memory, ea, value.lo, value.hi))
+    let V128 { lo, hi } = value;
+    Ok(put(memory, ea, Halves { lo, hi })?)
 }
 
-fn lane8_to(memory: &mut [u8], ea: Effective, value: V128, lane: u8) -> StoreAnswer
+#[tactic(auto, using(memory_access::proofs::Shapes::lane_store_is, memory_access::proofs::Shapes::no_lane_store))]
+fn lane8_to(memory: &mut [u8], ea: Effective, value: V128, lane: u8) -> Result<(), AccessError>
     ensures { store_answer result memory.new ≡ stored (store_lane 8 (number value) lane memory.old (effective ea)) memory.old }
 {
-    if lane >= 16 {
-        return StoreAnswer::Refused(u8::from(Refusal::Lane));
-    }
-    answered(put8(memory, ea, value.lane8(lane)))
+    lane_below(lane, 16)?;
+    Ok(put(memory, ea, u8::lane(value, lane))?)
 }
 
-fn lane16_to(memory: &mut [u8], ea: Effective, value: V128, lane: u8) -> StoreAnswer
+#[tactic(auto, using(memory_access::proofs::Shapes::lane_store_is, memory_access::proofs::Shapes::no_lane_store))]
+fn lane16_to(memory: &mut [u8], ea: Effective, value: V128, lane: u8) -> Result<(), AccessError>
     ensures { store_answer result memory.new ≡ stored (store_lane 16 (number value) lane memory.old (effective ea)) memory.old }
 {
-    if lane >= 8 {
-        return StoreAnswer::Refused(u8::from(Refusal::Lane));
-    }
-    answered(put16(memory, ea, value.lane16(lane)))
+    lane_below(lane, 8)?;
+    Ok(put(memory, ea, u16::lane(value, lane))?)
 }
 
-fn lane32_to(memory: &mut [u8], ea: Effective, value: V128, lane: u8) -> StoreAnswer
+#[tactic(auto, using(memory_access::proofs::Shapes::lane_store_is, memory_access::proofs::Shapes::no_lane_store))]
+fn lane32_to(memory: &mut [u8], ea: Effective, value: V128, lane: u8) -> Result<(), AccessError>
     ensures { store_answer result memory.new ≡ stored (store_lane 32 (number value) lane memory.old (effective ea)) memory.old }
 {
-    if lane >= 4 {
-        return StoreAnswer::Refused(u8::from(Refusal::Lane));
-    }
-    answered(put32(memory, ea, value.lane32(lane)))
+    lane_below(lane, 4)?;
+    Ok(put(memory, ea, u32::lane(value, lane))?)
 }
 
-fn lane64_to(memory: &mut [u8], ea: Effective, value: V128, lane: u8) -> StoreAnswer
+#[tactic(auto, using(memory_access::proofs::Shapes::lane_store_is, memory_access::proofs::Shapes::no_lane_store))]
+fn lane64_to(memory: &mut [u8], ea: Effective, value: V128, lane: u8) -> Result<(), AccessError>
     ensures { store_answer result memory.new ≡ stored (store_lane 64 (number value) lane memory.old (effective ea)) memory.old }
 {
-    if lane >= 2 {
-        return StoreAnswer::Refused(u8::from(Refusal::Lane));
-    }
-    answered(put64(memory, ea, value.lane64(lane)))
+    lane_below(lane, 2)?;
+    Ok(put(memory, ea, u64::lane(value, lane))?)
 }
 
-pub fn v128_store(memory: &mut [u8], ptr: u64, offset: u64, value: V128) -> StoreAnswer
+pub fn v128_store(memory: &mut [u8], ptr: u64, offset: u64, value: V128) -> Result<(), AccessError>
     ensures { store_answer result memory.new ≡ stored (store 16 (number value) memory.old (ptr + offset)) memory.old }
 {
     store_to(memory, Effective::Sum(ptr, offset), value)
 }
 
-pub fn v128_store_at(memory: &mut [u8], address: usize, value: V128) -> StoreAnswer
+pub fn v128_store_at(memory: &mut [u8], address: usize, value: V128) -> Result<(), AccessError>
     ensures { store_answer result memory.new ≡ stored (store 16 (number value) memory.old address) memory.old }
 {
     store_to(memory, Effective::Address(address), value)
@@ -74,13 +70,18 @@ pub fn v128_store8_lane(
     offset: u64,
     value: V128,
     lane: u8,
-) -> StoreAnswer
+) -> Result<(), AccessError>
     ensures { store_answer result memory.new ≡ stored (store_lane 8 (number value) lane memory.old (ptr + offset)) memory.old }
 {
     lane8_to(memory, Effective::Sum(ptr, offset), value, lane)
 }
 
-pub fn v128_store8_lane_at(memory: &mut [u8], address: usize, value: V128, lane: u8) -> StoreAnswer
+pub fn v128_store8_lane_at(
+    memory: &mut [u8],
+    address: usize,
+    value: V128,
+    lane: u8,
+) -> Result<(), AccessError>
     ensures { store_answer result memory.new ≡ stored (store_lane 8 (number value) lane memory.old address) memory.old }
 {
     lane8_to(memory, Effective::Address(address), value, lane)
@@ -92,13 +93,18 @@ pub fn v128_store16_lane(
     offset: u64,
     value: V128,
     lane: u8,
-) -> StoreAnswer
+) -> Result<(), AccessError>
     ensures { store_answer result memory.new ≡ stored (store_lane 16 (number value) lane memory.old (ptr + offset)) memory.old }
 {
     lane16_to(memory, Effective::Sum(ptr, offset), value, lane)
 }
 
-pub fn v128_store16_lane_at(memory: &mut [u8], address: usize, value: V128, lane: u8) -> StoreAnswer
+pub fn v128_store16_lane_at(
+    memory: &mut [u8],
+    address: usize,
+    value: V128,
+    lane: u8,
+) -> Result<(), AccessError>
     ensures { store_answer result memory.new ≡ stored (store_lane 16 (number value) lane memory.old address) memory.old }
 {
     lane16_to(memory, Effective::Address(address), value, lane)
@@ -110,13 +116,18 @@ pub fn v128_store32_lane(
     offset: u64,
     value: V128,
     lane: u8,
-) -> StoreAnswer
+) -> Result<(), AccessError>
     ensures { store_answer result memory.new ≡ stored (store_lane 32 (number value) lane memory.old (ptr + offset)) memory.old }
 {
     lane32_to(memory, Effective::Sum(ptr, offset), value, lane)
 }
 
-pub fn v128_store32_lane_at(memory: &mut [u8], address: usize, value: V128, lane: u8) -> StoreAnswer
+pub fn v128_store32_lane_at(
+    memory: &mut [u8],
+    address: usize,
+    value: V128,
+    lane: u8,
+) -> Result<(), AccessError>
     ensures { store_answer result memory.new ≡ stored (store_lane 32 (number value) lane memory.old address) memory.old }
 {
     lane32_to(memory, Effective::Address(address), value, lane)
@@ -128,13 +139,18 @@ pub fn v128_store64_lane(
     offset: u64,
     value: V128,
     lane: u8,
-) -> StoreAnswer
+) -> Result<(), AccessError>
     ensures { store_answer result memory.new ≡ stored (store_lane 64 (number value) lane memory.old (ptr + offset)) memory.old }
 {
     lane64_to(memory, Effective::Sum(ptr, offset), value, lane)
 }
 
-pub fn v128_store64_lane_at(memory: &mut [u8], address: usize, value: V128, lane: u8) -> StoreAnswer
+pub fn v128_store64_lane_at(
+    memory: &mut [u8],
+    address: usize,
+    value: V128,
+    lane: u8,
+) -> Result<(), AccessError>
     ensures { store_answer result memory.new ≡ stored (store_lane 64 (number value) lane memory.old address) memory.old }
 {
     lane64_to(memory, Effective::Address(address), value, lane)

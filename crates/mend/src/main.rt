@@ -9,15 +9,17 @@ use recording_mending::mend;
 fn write_mended(rt: &HostRuntime, file: &[u8]) {
     let mut out = [0u8; 18944];
     let mended = mend(file, &mut out);
-    let n = 512 * mended.written;
-    if let Err(error) = rt.write_all(&out[..n]) {
-        complain(rt, "mend: standard output", error);
-        return;
+    if let Ok(mending) = mended {
+        let n = 512 * mending.written;
+        if let Err(error) = rt.write_all(&out[..n]) {
+            complain(rt, "mend: standard output", error);
+            return;
+        }
     }
     let mut said = [0u8; 2048];
     let n = program_recordings::mend_said(mended, &mut said);
     let _ = rt.stderr().write_all(&said[..n]);
-    let good = (mended.refused == 0) & !mended.stopped;
+    let good = mended.is_ok_and(|mending| !mending.stopped);
     tell_status(rt, good);
 }
 

@@ -1,9 +1,13 @@
 -- A half of a vector, 64 bits, as its 64 / w lanes of width w (document 01, "Lane rules": "lane i of width w bits is bits w·i to w·i+w−1").
-use Rattle.std.specs.Prelude.{ℕ, ◌-◌, ◌/◌, ◌^◌, cond, map, eqb}
+use Rattle.std.specs.Prelude.{ℕ, ◌≡◌, ◌+◌, ◌-◌, ◌*◌, ◌/◌, ◌^◌, cond, map, eqb}
 use Rattle.std.specs.Int.Signed.{non_neg}
 use Rattle.standard.specs.Lanes.{digits, joined, zip}
 use Rattle.standard.specs.Integer.{signed}
 use Rattle.standard.specs.Vector.{no_zero}
+
+-- The width divides a half, and so a vector.
+abbrev pub Divides : ℕ → Type 0
+Divides w = (w * (64 / w) ≡ 64) × (64 / w + 64 / w ≡ 128 / w)
 
 -- f of each lane.
 unfoldable pub half_unary : ℕ → (ℕ → ℕ) → ℕ → ℕ

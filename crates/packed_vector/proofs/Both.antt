@@ -15,9 +15,8 @@ use Rattle.standard.specs.Lanes.{digits, joined, unary, binary}
 use Rattle.standard.specs.Vector.{no_zero, any_true, all_true, bitmask}
 use Rattle.standard.proofs.Digits.{length_digits, joined_append}
 use Rattle.standard.proofs.Halves.{lanes_halves, unary_halves, binary_halves, map_append}
-use Rattle.packed_half.specs.Half.{half_unary, half_binary, half_all_true, half_bitmask, sign_bit}
+use Rattle.packed_half.specs.Half.{Divides, half_unary, half_binary, half_all_true, half_bitmask, sign_bit}
 use Rattle.packed_half.proofs.Signs.{signs_below}
-use Rattle.packed_choose.proofs.Table.{Divides}
 use Rattle.simd.specs.declared.V128.{V128}
 use Rattle.simd.specs.Number.{number}
 

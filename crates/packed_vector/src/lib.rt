@@ -2,195 +2,202 @@
 // calculator (added)").
 #![tactic(auto)]
 
-ghost use Rattle.std.specs.Prelude.{◌≡◌, cond};
+ghost use Rattle.std.specs.Prelude.{ℕ, ◌≡◌, ◌<◌, ◌^◌, cond};
 ghost use Rattle.standard.specs.Integer.{iadd, isub, ineg, ieq, iavgr_u, ipopcnt, ishl, ishr_u};
 ghost use Rattle.standard.specs.Lanes.{unary, binary};
 ghost use Rattle.standard.specs.Vector.{any_true, all_true, bitmask};
-ghost use Rattle.packed_choose.specs.Choose.{unary_at, binary_at};
+ghost use Rattle.packed_half.specs.Half.{Divides, half_unary, half_binary};
 ghost use Rattle.simd.specs.Number.{number};
 
-use packed_choose::*;
+use packed_compare::*;
+use packed_count::*;
 use packed_reduce::*;
+use packed_shift::*;
+use packed_sum::arithmetic::*;
+use packed_sum::average::*;
 use simd::V128;
 
-fn both_unary(op: u8, count: u32, a: V128) -> V128
-    ensures { number result ≡ unary (unary_at op count).width (unary_at op count).lane (number a) }
+// A packed form of each half: where every call of f gives f's operation on the lanes of a half, both halves give it on the lanes of the vector.
+fn both_unary<F: Fn(u64) -> u64>(a: V128, f: F) -> V128
+    requires { F.IsAlwaysCallable f }
+    ensures { (w : ℕ) (g : ℕ → ℕ) → Divides w → ((x r : ℕ) → x < 2 ^ 64 → F.post f x r → r ≡ half_unary w g x) → number result ≡ unary w g (number a) }
 {
     V128 {
-        lo: packed_choose::unary(op, count, a.lo),
-        hi: packed_choose::unary(op, count, a.hi),
+        lo: f(a.lo),
+        hi: f(a.hi),
     }
 }
 
-fn both_binary(op: u8, a: V128, b: V128) -> V128
-    ensures { number result ≡ binary (binary_at op).width (binary_at op).lane (number a) (number b) }
+fn both_binary<F: Fn(u64, u64) -> u64>(a: V128, b: V128, f: F) -> V128
+    requires { F.IsAlwaysCallable f }
+    ensures { (w : ℕ) (g : ℕ → ℕ → ℕ) → Divides w → ((x y r : ℕ) → x < 2 ^ 64 → y < 2 ^ 64 → F.post f x y r → r ≡ half_binary w g x y) → number result ≡ binary w g (number a) (number b) }
 {
     V128 {
-        lo: packed_choose::binary(op, a.lo, b.lo),
-        hi: packed_choose::binary(op, a.hi, b.hi),
+        lo: f(a.lo, b.lo),
+        hi: f(a.hi, b.hi),
     }
 }
 
 pub fn i8x16_add(a: V128, b: V128) -> V128
     ensures { number result ≡ binary 8 (iadd 8) (number a) (number b) }
 {
-    both_binary(ADD8, a, b)
+    both_binary(a, b, add8)
 }
 
 pub fn i16x8_add(a: V128, b: V128) -> V128
     ensures { number result ≡ binary 16 (iadd 16) (number a) (number b) }
 {
-    both_binary(ADD16, a, b)
+    both_binary(a, b, add16)
 }
 
 pub fn i32x4_add(a: V128, b: V128) -> V128
     ensures { number result ≡ binary 32 (iadd 32) (number a) (number b) }
 {
-    both_binary(ADD32, a, b)
+    both_binary(a, b, add32)
 }
 
 pub fn i64x2_add(a: V128, b: V128) -> V128
     ensures { number result ≡ binary 64 (iadd 64) (number a) (number b) }
 {
-    both_binary(ADD64, a, b)
+    both_binary(a, b, add64)
 }
 
 pub fn i8x16_sub(a: V128, b: V128) -> V128
     ensures { number result ≡ binary 8 (isub 8) (number a) (number b) }
 {
-    both_binary(SUB8, a, b)
+    both_binary(a, b, sub8)
 }
 
 pub fn i16x8_sub(a: V128, b: V128) -> V128
     ensures { number result ≡ binary 16 (isub 16) (number a) (number b) }
 {
-    both_binary(SUB16, a, b)
+    both_binary(a, b, sub16)
 }
 
 pub fn i32x4_sub(a: V128, b: V128) -> V128
     ensures { number result ≡ binary 32 (isub 32) (number a) (number b) }
 {
-    both_binary(SUB32, a, b)
+    both_binary(a, b, sub32)
 }
 
 pub fn i64x2_sub(a: V128, b: V128) -> V128
     ensures { number result ≡ binary 64 (isub 64) (number a) (number b) }
 {
-    both_binary(SUB64, a, b)
+    both_binary(a, b, sub64)
 }
 
 pub fn i8x16_eq(a: V128, b: V128) -> V128
     ensures { number result ≡ binary 8 (ieq 8) (number a) (number b) }
 {
-    both_binary(EQ8, a, b)
+    both_binary(a, b, eq8)
 }
 
 pub fn i16x8_eq(a: V128, b: V128) -> V128
     ensures { number result ≡ binary 16 (ieq 16) (number a) (number b) }
 {
-    both_binary(EQ16, a, b)
+    both_binary(a, b, eq16)
 }
 
 pub fn i32x4_eq(a: V128, b: V128) -> V128
     ensures { number result ≡ binary 32 (ieq 32) (number a) (number b) }
 {
-    both_binary(EQ32, a, b)
+    both_binary(a, b, eq32)
 }
 
 pub fn i64x2_eq(a: V128, b: V128) -> V128
     ensures { number result ≡ binary 64 (ieq 64) (number a) (number b) }
 {
-    both_binary(EQ64, a, b)
+    both_binary(a, b, eq64)
 }
 
 pub fn i8x16_avgr_u(a: V128, b: V128) -> V128
     ensures { number result ≡ binary 8 (iavgr_u 8) (number a) (number b) }
 {
-    both_binary(AVGR_U8, a, b)
+    both_binary(a, b, avgr_u8)
 }
 
 pub fn i16x8_avgr_u(a: V128, b: V128) -> V128
     ensures { number result ≡ binary 16 (iavgr_u 16) (number a) (number b) }
 {
-    both_binary(AVGR_U16, a, b)
+    both_binary(a, b, avgr_u16)
 }
 
 pub fn i8x16_neg(a: V128) -> V128
     ensures { number result ≡ unary 8 (ineg 8) (number a) }
 {
-    both_unary(NEG8, 0, a)
+    both_unary(a, neg8)
 }
 
 pub fn i16x8_neg(a: V128) -> V128
     ensures { number result ≡ unary 16 (ineg 16) (number a) }
 {
-    both_unary(NEG16, 0, a)
+    both_unary(a, neg16)
 }
 
 pub fn i32x4_neg(a: V128) -> V128
     ensures { number result ≡ unary 32 (ineg 32) (number a) }
 {
-    both_unary(NEG32, 0, a)
+    both_unary(a, neg32)
 }
 
 pub fn i64x2_neg(a: V128) -> V128
     ensures { number result ≡ unary 64 (ineg 64) (number a) }
 {
-    both_unary(NEG64, 0, a)
+    both_unary(a, neg64)
 }
 
 pub fn i8x16_shl(a: V128, count: u32) -> V128
     ensures { number result ≡ unary 8 (ishl 8 count) (number a) }
 {
-    both_unary(SHL8, count, a)
+    both_unary(a, |half| shl8(half, count))
 }
 
 pub fn i16x8_shl(a: V128, count: u32) -> V128
     ensures { number result ≡ unary 16 (ishl 16 count) (number a) }
 {
-    both_unary(SHL16, count, a)
+    both_unary(a, |half| shl16(half, count))
 }
 
 pub fn i32x4_shl(a: V128, count: u32) -> V128
     ensures { number result ≡ unary 32 (ishl 32 count) (number a) }
 {
-    both_unary(SHL32, count, a)
+    both_unary(a, |half| shl32(half, count))
 }
 
 pub fn i64x2_shl(a: V128, count: u32) -> V128
     ensures { number result ≡ unary 64 (ishl 64 count) (number a) }
 {
-    both_unary(SHL64, count, a)
+    both_unary(a, |half| shl64(half, count))
 }
 
 pub fn i8x16_shr_u(a: V128, count: u32) -> V128
     ensures { number result ≡ unary 8 (ishr_u 8 count) (number a) }
 {
-    both_unary(SHR_U8, count, a)
+    both_unary(a, |half| shr_u8(half, count))
 }
 
 pub fn i16x8_shr_u(a: V128, count: u32) -> V128
     ensures { number result ≡ unary 16 (ishr_u 16 count) (number a) }
 {
-    both_unary(SHR_U16, count, a)
+    both_unary(a, |half| shr_u16(half, count))
 }
 
 pub fn i32x4_shr_u(a: V128, count: u32) -> V128
     ensures { number result ≡ unary 32 (ishr_u 32 count) (number a) }
 {
-    both_unary(SHR_U32, count, a)
+    both_unary(a, |half| shr_u32(half, count))
 }
 
 pub fn i64x2_shr_u(a: V128, count: u32) -> V128
     ensures { number result ≡ unary 64 (ishr_u 64 count) (number a) }
 {
-    both_unary(SHR_U64, count, a)
+    both_unary(a, |half| shr_u64(half, count))
 }
 
 pub fn i8x16_popcnt(a: V128) -> V128
     ensures { number result ≡ unary 8 (ipopcnt 8) (number a) }
 {
-    both_unary(POPCNT8, 0, a)
+    both_unary(a, popcnt8)
 }
 
 pub fn v128_any_true(a: V128) -> bool

@@ -1,9 +1,16 @@
--- An answer put into two lent lists, from their start, and how much of each was written.
-use Rattle.std.specs.Prelude.{ℕ, List}
+-- An answer put into one of two lent lists, from its start: how many bytes go to standard output, or how many to standard error.
+use Rattle.std.specs.Prelude.{ℕ, Result, Ok, Err, List}
 use Rattle.program_digits.specs.Put.{Filled}
 use Rattle.program_answer.specs.Output.{Answer}
-use Rattle.program_answer.specs.declared.Told.{Told}
 
-pub record Tells (a : Answer) (out err out-after err-after : List ℕ) (r : Told) : Type 0 where
-  pub output : Filled out a.output out-after r.output
-  pub said : Filled err a.said err-after r.said
+abbrev pub output_of : Result ℕ ℕ → ℕ
+output_of (Ok n) = n
+output_of (Err n) = 0
+
+abbrev pub said_of : Result ℕ ℕ → ℕ
+said_of (Ok n) = 0
+said_of (Err n) = n
+
+pub record Tells (a : Answer) (out err out-after err-after : List ℕ) (r : Result ℕ ℕ) : Type 0 where
+  pub output : Filled out a.output out-after (output_of r)
+  pub said : Filled err a.said err-after (said_of r)

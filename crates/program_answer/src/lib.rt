@@ -1,9 +1,2 @@
-// What a program writes whose standard output is a file's bytes: those, and what it says on standard error.
+// No code: what a program writes whose standard output is a file's bytes, those or what it says on standard error, stands here for the programs that do so.
 #![tactic(auto)]
-
-// How many bytes of each lent slice go to standard output and to standard error.
-#[derive(Clone, Copy)]
-pub struct Told {
-    pub output: usize,
-    pub said: usize,
-}

@@ -1,7 +1,7 @@
 -- What a numeral of the code stands for.
+use Rattle.std.specs.Prelude.{ℕ, Option, Some, None}
 use Rattle.program_arguments.specs.Arguments as Arguments
-use Rattle.program_arguments.specs.declared.Numeral.{Numeral}
 
-abbrev pub numeral_of : Numeral → Arguments.Numeral
-numeral_of (Numeral.Number n) = Arguments.number n
-numeral_of Numeral.None = Arguments.none
+abbrev pub numeral_of : Option ℕ → Arguments.Numeral
+numeral_of (Some n) = Arguments.number n
+numeral_of None = Arguments.none

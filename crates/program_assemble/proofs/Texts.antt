@@ -1,6 +1,6 @@
 -- A text, line by line. Assumes nothing.
-use mathlib.Core.Path.{◌≡◌, refl, sym, ap, ◌∙◌}
-use mathlib.Core.Bool.{Bool, true, false, cond, ◌&&◌}
+use mathlib.Core.Path.{◌≡◌, refl, ap, ◌∙◌}
+use mathlib.Core.Bool.{Bool, true, cond, ◌&&◌}
 use mathlib.Core.List.{List, [], ◌∷◌, ◌++◌, map, append_assoc, append-nil}
 use Prim.Native.Nat.{ℕ, zero, suc, ◌+◌, ◌-◌, ◌*◌, ◌<◌, ◌≤◌}
 use native.Mathlib.Numerals.{add-one}
@@ -19,27 +19,12 @@ use Rattle.program_words.specs.Stops.{Scanned}
 use Rattle.program_words.proofs.Pieces.{first_piece, last_piece, next_piece}
 use Rattle.program_answer.specs.Output.{output_alone, said_alone}
 use Rattle.program_line.specs.Line.{Line, empty, step, refused, line}
-use Rattle.program_line.specs.Reads.{ReadAs}
-use Rattle.program_line.specs.declared.Read.{Read}
 use Rattle.program_assemble.specs.Text.{Assembled, after_them, wrong_line, next_line, of_lines, assembled, reasons, why, complaint, told}
-use Rattle.program_assemble.specs.Meaning.{added, room_after, fault, TakesLine, Assembles}
-use Rattle.program_assemble.specs.declared.Taken.{Taken}
-use Rattle.program_assemble.specs.declared.Assembly.{Assembly}
+use Rattle.program_assemble.specs.Meaning.{added, room_after, fault, Took, HasRead, TakesLine, Assembles}
 
 abbrev every_short : List (List ℕ) → Bool
 every_short [] = true
 every_short (w ∷ ws) = leb (length w) 35 && every_short ws
-
--- what the code read
-module _ (r : Read) (l : Line) (e : ReadAs l r) where
-  pub read_empty : r.empty ≡ true → l ≡ empty
-  read_empty h = sym e.says ∙ rw h
-
-  pub read_refused : r.empty ≡ false → (r.reason ≡ 0 → ⊥) → l ≡ refused r.reason
-  read_refused h k = sym e.says ∙ rw (h, ne_eqb r.reason 0 k)
-
-  pub read_step : r.empty ≡ false → r.reason ≡ 0 → l ≡ step r.step
-  read_step h k = sym e.says ∙ rw (h, eq-eqb r.reason 0 k)
 
 -- a line that adds nothing, whatever the room
 of_empty : (m : ℕ) → (added m empty ≡ []) × (room_after m empty ≡ m) × (fault m empty ≡ 0)
@@ -134,7 +119,7 @@ unfolding assembled
 nothing_yet text out =
     record { done = []; inside = omega arith; most = omega arith; lines = omega arith; counted = refl; wrote = no_more out 0; is = refl }
 
-module _ {text start out two : List ℕ} {from at n k end : ℕ} (r : Taken) (p : SoFar text start out from at n k) (scan : Scanned newline text from end)
+module _ {text start out two : List ℕ} {from at n k end : ℕ} (r : Took) (p : SoFar text start out from at n k) (scan : Scanned newline text from end)
     (t : TakesLine (line (take (end - from) (drop from text))) n at out two r) where
   abbrev here : Line
   here = line (take (end - from) (drop from text))
@@ -194,7 +179,7 @@ pub complaint_length : (k r : ℕ) → length (complaint k r) ≤ 128
 unfolding complaint why reasons codes
 complaint_length k r = simp length-append (omega (arith, decimal_length k, whys r (map codes reasons) refl))
 
-pub list_short : (r : Assembly) (after : List ℕ) → r.steps ≤ 256 → length (take (32 * r.steps) after) ≤ 8192
+pub list_short : (r : HasRead) (after : List ℕ) → r.steps ≤ 256 → length (take (32 * r.steps) after) ≤ 8192
 list_short r after h = omega (arith, length-take (32 * r.steps) after)
 
 -- what is told of a text
@@ -203,7 +188,7 @@ module _ (text : List ℕ) where
   unfolding told
   told_long h = rw (lt-leb (length text) 65536 h)
 
-  module _ (h : length text ≤ 65536) (r : Assembly) (before after : List ℕ) (a : Assembles (assembled text) before after r) where
+  module _ (h : length text ≤ 65536) (r : HasRead) (before after : List ℕ) (a : Assembles (assembled text) before after r) where
     pub told_wrong : (r.reason ≡ 0 → ⊥) → told text ≡ said_alone (complaint r.line r.reason)
     unfolding told
     told_wrong k = rw (le-leb (length text) 65536 h, ← a.reason, ne_eqb r.reason 0 k, ← a.line)

@@ -1,9 +1,11 @@
 -- What the code's values stand for.
-use Rattle.std.specs.Prelude.{ℕ, zero, suc, ◌+◌, ◌-◌, ◌*◌, ◌≤◌, ◌≡◌, List, [], length}
+use Rattle.std.specs.Prelude.{ℕ, zero, suc, ◌+◌, ◌-◌, ◌*◌, ◌≤◌, ◌≡◌, Result, Ok, Err, List, [], length}
 use Rattle.program_digits.specs.Put.{written, Wrote}
 use Rattle.program_line.specs.Line as text
 use Rattle.program_assemble.specs.Text.{Assembled, too_many}
-use Rattle.program_assemble.specs.declared.Assembly.{Assembly}
+use Rattle.program_line.specs.Reads.{number_of}
+use Rattle.program_line.specs.declared.Reason.{Reason}
+use Rattle.program_assemble.specs.declared.Fault.{Fault}
 use Rattle.program_assemble.specs.declared.Taken.{Taken}
 
 -- Of a line, with room for so many steps: what it adds, the room after it, and why it is wrong, or 0.
@@ -25,7 +27,17 @@ fault zero (text.step s) = too_many
 fault (suc room) (text.step s) = 0
 fault room (text.refused r) = r
 
-pub record TakesLine (l : text.Line) (steps at : ℕ) (before after : List ℕ) (r : Taken) : Type 0 where
+-- After a line: how many steps there are, the place after them, and why the line is wrong, or 0. A wrong line leaves the steps as they are.
+pub record Took : Type 0 where
+  pub steps : ℕ
+  pub at : ℕ
+  pub reason : ℕ
+
+abbrev pub taken_of : ℕ → ℕ → Result Taken Reason → Took
+taken_of steps at (Ok t) = record { steps = t.steps; at = t.at; reason = 0 }
+taken_of steps at (Err reason) = record { steps = steps; at = at; reason = number_of reason }
+
+pub record TakesLine (l : text.Line) (steps at : ℕ) (before after : List ℕ) (r : Took) : Type 0 where
   pub some : l ≡ text.refused 0 → ⊥
   pub most : r.steps ≤ 256
   pub room : 256 - r.steps ≡ room_after (256 - steps) l
@@ -33,8 +45,18 @@ pub record TakesLine (l : text.Line) (steps at : ℕ) (before after : List ℕ) 
   pub reason : r.reason ≡ fault (256 - steps) l
   pub wrote : Wrote before at (added (256 - steps) l) after r.at
 
+-- Of a text: how many steps there are, and the number of its first wrong line and why it is wrong; 0 and 0 where none is.
+pub record HasRead : Type 0 where
+  pub steps : ℕ
+  pub line : ℕ
+  pub reason : ℕ
+
+abbrev pub read_of : Result ℕ Fault → HasRead
+read_of (Ok steps) = record { steps = steps; line = 0; reason = 0 }
+read_of (Err f) = record { steps = f.steps; line = f.line; reason = number_of f.reason }
+
 -- the answer to a text, and the lent list after it
-pub record Assembles (a : Assembled) (before after : List ℕ) (r : Assembly) : Type 0 where
+pub record Assembles (a : Assembled) (before after : List ℕ) (r : HasRead) : Type 0 where
   pub most : r.steps ≤ 256
   pub steps : 32 * r.steps ≡ length a.steps
   pub line : r.line ≡ a.line

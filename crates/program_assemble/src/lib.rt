@@ -5,67 +5,52 @@ ghost use Rattle.std.specs.Prelude.{◌≤◌, ◌≡◌};
 ghost use Rattle.program_answer.specs.Tells.{Tells};
 ghost use Rattle.program_digits.specs.Put.{Wrote};
 ghost use Rattle.program_line.specs.Line.{line as the-line};
-ghost use Rattle.program_assemble.specs.Meaning.{TakesLine, Assembles};
+ghost use Rattle.program_line.specs.Reads.{number_of};
+ghost use Rattle.program_assemble.specs.Meaning.{TakesLine, Assembles, taken_of, read_of};
 ghost use Rattle.program_assemble.specs.Text.{assembled, why, complaint, told};
 
-use program_answer::Told;
+use program_line::Reason;
 use program_words::Stop;
 
-// The steps that a text gives, and the number of its first wrong line and why it is wrong; 0 and 0 where none is.
+// The first wrong line of a text, counted from 1, why it is wrong, and how many steps stand before it.
 #[derive(Clone, Copy)]
-pub struct Assembly {
+pub struct Fault {
     pub steps: usize,
     pub line: usize,
-    pub reason: u8,
+    pub reason: Reason,
 }
 
-// After a line: how many steps there are, the place after them, and why the line is wrong, or 0.
+// After a line: how many steps there are, and the place after them.
 #[derive(Clone, Copy)]
 pub struct Taken {
     pub steps: usize,
     pub at: usize,
-    pub reason: u8,
 }
 
 // A text gives no more steps.
 const MOST_STEPS: usize = 256;
 
 // Puts the step of a line, if it has one, after those before it.
-fn take_line(line: &[u8], out: &mut [u8], steps: usize, at: usize) -> Taken
+fn take_line(line: &[u8], out: &mut [u8], steps: usize, at: usize) -> Result<Taken, Reason>
     requires { steps ≤ 256 }
-    ensures { TakesLine (the-line line.now) steps at out.old out.new result }
+    ensures { TakesLine (the-line line.now) steps at out.old out.new (taken_of steps at result) }
 {
-    let read = program_line::read_line(line);
-    if read.empty {
-        return Taken {
-            steps,
-            at,
-            reason: 0,
-        };
-    }
-    let reason = read.reason;
-    if reason != 0 {
-        return Taken { steps, at, reason };
-    }
+    let Some(step) = program_line::read_line(line)? else {
+        return Ok(Taken { steps, at });
+    };
     if steps == MOST_STEPS {
-        return Taken {
-            steps,
-            at,
-            reason: 7,
-        };
+        return Err(Reason::Steps);
     }
-    let step = read.step;
-    let next = program_digits::put(out, at, &step);
-    Taken {
+    let at = program_digits::put(out, at, &step);
+    Ok(Taken {
         steps: steps + 1,
-        at: next,
-        reason: 0,
-    }
+        at,
+    })
 }
 
-// Puts the steps of a text into a lent slice, as far as there is room, up to the first wrong line.
-pub fn read_text(text: &[u8], out: &mut [u8]) -> Assembly
-    ensures { Assembles (assembled text.now) out.old out.new result }
+// Puts the steps of a text into a lent slice, as far as there is room, up to the first wrong line; and answers how many there are.
+pub fn read_text(text: &[u8], out: &mut [u8]) -> Result<usize, Fault>
+    ensures { Assembles (assembled text.now) out.old out.new (read_of result) }
 {
     let mut from = 0;
     let mut at = 0;
@@ -73,21 +58,18 @@ pub fn read_text(text: &[u8], out: &mut [u8]) -> Assembly
     let mut line = 1;
     loop {
         let end = program_words::scan(text, from, Stop::Line);
-        let taken = take_line(&text[from..end], out, steps, at);
-        let reason = taken.reason;
-        if reason != 0 {
-            return Assembly {
-                steps,
-                line,
-                reason,
-            };
-        }
+        let taken = match take_line(&text[from..end], out, steps, at) {
+            Ok(taken) => taken,
+            Err(reason) => {
+                return Err(Fault {
+                    steps,
+                    line,
+                    reason,
+                });
+            }
+        };
         if end == text.len() {
-            return Assembly {
-                steps: taken.steps,
-                line: 0,
-                reason: 0,
-            };
+            return Ok(taken.steps);
         }
         steps = taken.steps;
         at = taken.at;
@@ -107,15 +89,15 @@ too much on the line
 above 256 steps
 above 65536 bytes";
 
-fn put_reason(out: &mut [u8], at: usize, reason: u8) -> usize
-    ensures { Wrote out.old at (why reason) out.new result }
+fn put_reason(out: &mut [u8], at: usize, reason: Reason) -> usize
+    ensures { Wrote out.old at (why (number_of reason)) out.new result }
 {
-    program_table::put_line(out, at, &REASONS, reason as usize)
+    program_table::put_line(out, at, &REASONS, u8::from(reason) as usize)
 }
 
 // The line that says which line is wrong, and why.
-fn put_complaint(out: &mut [u8], line: usize, reason: u8) -> usize
-    ensures { Wrote out.old 0 (complaint line reason) out.new result }
+fn put_complaint(out: &mut [u8], line: usize, reason: Reason) -> usize
+    ensures { Wrote out.old 0 (complaint line (number_of reason)) out.new result }
 {
     let numbered = program_digits::put_number(out, 0, b"assemble: line ", line as u64);
     let colon = program_digits::put(out, numbered, b": ");
@@ -123,23 +105,17 @@ fn put_complaint(out: &mut [u8], line: usize, reason: u8) -> usize
     program_digits::put(out, reasoned, b"\n")
 }
 
-// What the program `assemble` writes for a text on standard input: a list on standard output, or a line on standard error.
-pub fn assemble(text: &[u8], output: &mut [u8; 8192], said: &mut [u8; 128]) -> Told
+// What the program `assemble` writes for a text on standard input: so many bytes of a list on standard output, or a line of so many on standard error.
+pub fn assemble(text: &[u8], output: &mut [u8; 8192], said: &mut [u8; 128]) -> Result<usize, usize>
     ensures { Tells (told text.now) output.old said.old output.new said.new result }
 {
     if text.len() > 65536 {
         let line = program_words::lines(&text[..65536]);
-        let n = put_complaint(said, line, 8);
-        return Told { output: 0, said: n };
+        return Err(put_complaint(said, line, Reason::Bytes));
     }
     let mut list = [0u8; 8192];
-    let read = read_text(text, &mut list);
-    let reason = read.reason;
-    if reason != 0 {
-        let n = put_complaint(said, read.line, reason);
-        return Told { output: 0, said: n };
+    match read_text(text, &mut list) {
+        Ok(steps) => Ok(program_digits::put(output, 0, &list[..32 * steps])),
+        Err(fault) => Err(put_complaint(said, fault.line, fault.reason)),
     }
-    let end = 32 * read.steps;
-    let n = program_digits::put(output, 0, &list[..end]);
-    Told { output: n, said: 0 }
 }

@@ -6,15 +6,13 @@ ghost use Rattle.program_answer.specs.Tells.{Tells};
 ghost use Rattle.program_digits.specs.Put.{Wrote};
 ghost use Rattle.program_disassemble.specs.Written.{numbered, lines, told};
 
-use program_answer::Told;
-
 const COLUMN: usize = 64;
 
 // How many blanks there are before the column of numbers.
 fn gap(n: usize) -> usize
     ensures { result ≡ 64 - n }
 {
-    if n < COLUMN { COLUMN - n } else { 0 }
+    COLUMN.saturating_sub(n)
 }
 
 // The line of a step with its number.
@@ -43,15 +41,18 @@ fn put_steps(out: &mut [u8], list: &[u8]) -> usize
     next
 }
 
-// What the program `disassemble` writes for a list on standard input: its text on standard output, or a line on standard error.
-pub fn disassemble(list: &[u8], output: &mut [u8; 65536], said: &mut [u8; 32]) -> Told
+// What the program `disassemble` writes for a list on standard input: so many bytes of its text on standard output, or a line of so many on
+// standard error.
+pub fn disassemble(
+    list: &[u8],
+    output: &mut [u8; 65536],
+    said: &mut [u8; 32],
+) -> Result<usize, usize>
     ensures { Tells (told list.now) output.old said.old output.new said.new result }
 {
-    let refused = calculator_limits::judge(list.len(), 0, 256);
-    if refused != 0 {
-        let n = program_digits::put_count(said, 0, b"refused ", refused as u64);
-        return Told { output: 0, said: n };
+    if let Err(refusal) = calculator_limits::judge(list.len(), 0, 256) {
+        let number = u8::from(refusal) as u64;
+        return Err(program_digits::put_count(said, 0, b"refused ", number));
     }
-    let n = put_steps(output, list);
-    Told { output: n, said: 0 }
+    Ok(put_steps(output, list))
 }

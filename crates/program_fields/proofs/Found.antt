@@ -1,48 +1,29 @@
 -- The fields of a line, as the code finds them. Assumes nothing.
-use mathlib.Core.Path.{◌≡◌, refl}
+use mathlib.Core.Path.{◌≡◌, refl, ◌∙◌}
 use mathlib.Core.List.{List, [], ◌∷◌}
-use Prim.Native.Nat.{ℕ, suc, ◌+◌, ◌-◌, ◌*◌, ◌<◌, ◌≤◌}
-use native.Mathlib.Nat.{mul_comm}
-use native.Mathlib.Numerals.{add-one}
+use Prim.Native.Nat.{ℕ, suc, ◌-◌, ◌<◌, ◌≤◌}
 use native.Mathlib.Omega.{arith}
-use borrow.Author.Tests.{lt-ltb, le-ltb, eq-eqb, ne_eqb}
-use lib.ListN.{length, get_or, take, drop, length-drop, drop_of_length-le}
-use lib.Seq.{drop-cons}
-use Rattle.program_arguments.specs.Arguments.{digit, decimal}
+use borrow.Author.Tests.{eq-eqb, ne_eqb}
+use lib.ListN.{length, get_or, take, drop, drop_of_length-le}
+use lib.Seq.{take_all}
+use Rattle.program_arguments.specs.Arguments.{decimal}
 use Rattle.program_words.specs.Cut.{blank, before, onward}
 use Rattle.program_words.specs.Stops.{Scanned}
-use Rattle.program_fields.specs.Fields.{Field, register, lane, mark, byte, found, nothing, between, number_in, as_register, as_byte, find}
+use Rattle.program_fields.specs.Fields.{Field, register, lane, mark, byte, nothing, between, number_in, as_register, find}
 
--- two hex digits
-short : (cs : List ℕ) → length cs < 2 → nothing ≡ as_byte cs
-short [] h = refl
-short (a ∷ []) h = refl
-short (a ∷ b ∷ cs) h = absurd (too_long (length cs) h)
-  where
-    too_long : (n : ℕ) → suc (suc n) < 2 → ⊥
-    too_long n k = omega arith
+-- a word as a register, by its first character
+module _ (rest : List ℕ) where
+  empty_word : (w : List ℕ) → length w < 1 → nothing ≡ as_register rest w
+  empty_word [] h = refl
+  empty_word (c ∷ cs) h = absurd (omega arith)
 
-module _ (line : List ℕ) (at : ℕ) where
-  pub no_room : length line - at < 2 → nothing ≡ as_byte (drop at line)
-  no_room h = short (drop at line) (rw (length-drop at line) h)
+  other_word : (w : List ℕ) → 1 ≤ length w → (get_or w 0 0 ≡ 114 → ⊥) → nothing ≡ as_register rest w
+  other_word [] h k = absurd (omega arith)
+  other_word (c ∷ cs) h k = rw (ne_eqb c 114 k)
 
-  module _ (h : at + 2 ≤ length line) where
-    two : drop at line ≡ get_or line at 0 ∷ get_or line (at + 1) 0 ∷ drop (at + 2) line
-    two = rw (drop-cons line at 0 (omega arith), drop-cons line (suc at) 0 (omega arith), add-one at, more)
-      where
-        more : at + 2 ≡ suc (suc at)
-        more = omega arith
-
-    module _ (a : ℕ) (ea : a ≡ digit (get_or line at 0)) where
-      pub no_high : 16 ≤ a → nothing ≡ as_byte (drop at line)
-      no_high k = rw (two, ← ea, le-ltb a 16 k)
-
-      module _ (b : ℕ) (eb : b ≡ digit (get_or line (at + 1) 0)) (k : a < 16) where
-        pub no_low : 16 ≤ b → nothing ≡ as_byte (drop at line)
-        no_low l = rw (two, ← ea, ← eb, lt-ltb a 16 k, le-ltb b 16 l)
-
-        pub is_byte : b < 16 → found (a * 16 + b) (drop (at + 2) line) ≡ as_byte (drop at line)
-        is_byte l = rw (two, ← ea, ← eb, lt-ltb a 16 k, lt-ltb b 16 l, mul_comm a 16)
+  r_word : (w : List ℕ) → 1 ≤ length w → get_or w 0 0 ≡ 114 → between 0 15 rest (decimal (take (length w - 1) (drop 1 w))) ≡ as_register rest w
+  r_word [] h k = absurd (omega arith)
+  r_word (c ∷ cs) h k = rw (eq-eqb c 114 k, take_all (suc (length cs) - 1) cs (omega arith))
 
 -- a word, by a scan
 module _ (line : List ℕ) (at end : ℕ) (s : Scanned blank line at end) where
@@ -53,25 +34,19 @@ module _ (line : List ℕ) (at end : ℕ) (s : Scanned blank line at end) where
   unfolding find
   to_register = rw (s.left, s.passed)
 
-  pub no_word : at ≡ end → nothing ≡ find register (drop at line)
-  no_word e = rw none at to_register
-    where
-      none : end - at ≡ 0
-      none = omega arith
+  abbrev found_word : List ℕ
+  found_word = take (end - at) (drop at line)
 
-  module _ (h : at < end) where
-    rest : take (end - at) (drop at line) ≡ get_or line at 0 ∷ take (end - (at + 1)) (drop (at + 1) line)
-    rest = rw (more, drop-cons line at 0 (omega (arith, s.high)), add-one)
-      where
-        more : end - at ≡ suc (end - (at + 1))
-        more = omega arith
+  pub no_word : length found_word < 1 → nothing ≡ find register (drop at line)
+  no_word h = empty_word (drop end line) found_word h ∙ to_register
 
-    pub no_r : (get_or line at 0 ≡ 114 → ⊥) → nothing ≡ find register (drop at line)
-    no_r k = rw (rest, ne_eqb (get_or line at 0) 114 k) at to_register
+  module _ (h : 1 ≤ length found_word) where
+    pub no_r : (get_or found_word 0 0 ≡ 114 → ⊥) → nothing ≡ find register (drop at line)
+    no_r k = other_word (drop end line) found_word h k ∙ to_register
 
-    pub is_register : get_or line at 0 ≡ 114
-        → between 0 15 (drop end line) (decimal (take (end - (at + 1)) (drop (at + 1) line))) ≡ find register (drop at line)
-    is_register k = rw (rest, eq-eqb (get_or line at 0) 114 k) at to_register
+    pub is_register : get_or found_word 0 0 ≡ 114
+        → between 0 15 (drop end line) (decimal (take (length found_word - 1) (drop 1 found_word))) ≡ find register (drop at line)
+    is_register k = r_word (drop end line) found_word h k ∙ to_register
 
 -- past the end of a line
 none_past : (f : Field) → nothing ≡ find f []

@@ -116,6 +116,6 @@ pub fn refused_by(outcome: Outcome) -> u8
     match outcome {
         Outcome::Ended => 0,
         Outcome::Paused(_) => 0,
-        Outcome::Refused(number) => number,
+        Outcome::Refused(refusal) => u8::from(refusal),
     }
 }

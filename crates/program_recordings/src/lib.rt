@@ -2,30 +2,34 @@
 // replay can be put from any place on.
 #![tactic(auto)]
 
-ghost use Rattle.std.specs.Prelude.{◌≡◌};
+ghost use Rattle.std.specs.Prelude.{◌≤◌, length, map};
 ghost use Rattle.recording_compare.specs.Verdict as trace;
 ghost use Rattle.recording_rules.specs.Recorded as records;
+ghost use Rattle.recording_mending_place.specs.Mended.{number_of};
 ghost use Rattle.recording_mending.specs.Mended.{mending_of};
 ghost use Rattle.program_digits.specs.Put.{Wrote, Filled};
 ghost use Rattle.program_recordings.specs.Lines.{replay, record_said, bit_line, bit_lines, stop_line, mend_said};
 
 use program_digits::{put, put_count, put_number};
-use recording_compare::Answer;
+use recording_compare::Verdict;
 use recording_mending::Mending;
+use recording_mending_place::Bit;
 use recording_rules::Recorded;
+use standard_refusal::Refusal;
 
 // The line of what a replay answers, from a place on: `show` ends with it.
-pub fn put_answer(out: &mut [u8], at: usize, answer: Answer) -> usize
+#[tactic(auto, unfolding(crate::specs::Lines::replay, program_digits::specs::Codes::codes))]
+pub fn put_answer(out: &mut [u8], at: usize, answer: Result<Verdict, Refusal>) -> usize
     ensures { Wrote out.old at (replay (trace.answer_of answer)) out.new result }
 {
     match answer {
-        Answer::Agrees => put(out, at, b"agrees\n"),
-        Answer::Differs(record) => put_count(out, at, b"record ", record as u64),
-        Answer::Refused(number) => put_count(out, at, b"refused ", number as u64),
+        Ok(Verdict::Agrees) => put(out, at, b"agrees\n"),
+        Ok(Verdict::Differs(record)) => put_count(out, at, b"record ", record as u64),
+        Err(refusal) => put_count(out, at, b"refused ", u8::from(refusal) as u64),
     }
 }
 
-pub fn replay(answer: Answer, out: &mut [u8; 32]) -> usize
+pub fn replay(answer: Result<Verdict, Refusal>, out: &mut [u8; 32]) -> usize
     ensures { Filled out.old (replay (trace.answer_of answer)) out.new result }
 {
     put_answer(out, 0, answer)
@@ -43,22 +47,25 @@ pub fn record_said(recorded: Recorded, out: &mut [u8; 32]) -> usize
     }
 }
 
-fn put_bit(out: &mut [u8], at: usize, block: usize, bit: u16) -> usize
-    ensures { Wrote out.old at (bit_line block bit) out.new result }
+fn put_bit(out: &mut [u8], at: usize, block: usize, bit: Option<Bit>) -> usize
+    ensures { Wrote out.old at (bit_line block (number_of bit)) out.new result }
 {
-    if bit < 4096 {
-        let next = put_number(out, at, b"block ", block as u64);
-        return put_count(out, next, b" bit ", bit as u64);
+    match bit {
+        Some(bit) => {
+            let next = put_number(out, at, b"block ", block as u64);
+            put_count(out, next, b" bit ", bit.number as u64)
+        }
+        None => at,
     }
-    at
 }
 
-fn put_bits(out: &mut [u8], bits: [u16; 37]) -> usize
-    ensures { Wrote out.old 0 (bit_lines 0 bits) out.new result }
+fn put_bits(out: &mut [u8], bits: &[Option<Bit>]) -> usize
+    requires { length bits.now ≤ 37 }
+    ensures { Wrote out.old 0 (bit_lines 0 (map number_of bits.now)) out.new result }
 {
     let mut next = 0;
-    for i in 0..37 {
-        next = put_bit(out, next, i, bits[i]);
+    for (block, bit) in bits.iter().enumerate() {
+        next = put_bit(out, next, block, *bit);
     }
     next
 }
@@ -74,14 +81,14 @@ fn put_stop(out: &mut [u8], at: usize, stopped: bool, block: usize) -> usize
 }
 
 // What `mend` says on standard error.
-pub fn mend_said(mending: Mending, out: &mut [u8; 2048]) -> usize
+pub fn mend_said(mending: Result<Mending, Refusal>, out: &mut [u8; 2048]) -> usize
     ensures { Filled out.old (mend_said (mending_of mending)) out.new result }
 {
-    let refused = mending.refused;
-    if refused != 0 {
-        return put_count(out, 0, b"refused ", refused as u64);
+    match mending {
+        Ok(mending) => {
+            let next = put_bits(out, &mending.bits);
+            put_stop(out, next, mending.stopped, mending.written)
+        }
+        Err(refusal) => put_count(out, 0, b"refused ", u8::from(refusal) as u64),
     }
-    let bits = mending.bits;
-    let next = put_bits(out, bits);
-    put_stop(out, next, mending.stopped, mending.written)
 }

@@ -13,7 +13,7 @@ use program_record::put_record;
 use program_recordings::put_answer;
 use recording::account::account;
 use recording::replay::replay;
-use recording_layout_judge::{Judged, judge};
+use recording_layout_judge::judge;
 
 // The record of a step and of what it left.
 fn record_of(s: &[u8], lo: u64, hi: u64, refused: u8, kind: u8, bits: u64) -> [u8; 64]
@@ -63,8 +63,8 @@ fn put_judged(out: &mut [u8], file: &[u8]) -> usize
     ensures { Wrote out.old 0 (show_judged (judged file.now) file.now) out.new result }
 {
     match judge(file) {
-        Judged::Recording(n) => put_records(out, file, n),
-        Judged::Refused(_) => 0,
+        Ok(n) => put_records(out, file, n),
+        Err(_) => 0,
     }
 }
 

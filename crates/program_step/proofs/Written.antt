@@ -22,7 +22,8 @@ use Rattle.program_forms.specs.Forms.{Form, form}
 use Rattle.program_forms.proofs.Fits.{Fitting, form_fits}
 use Rattle.program_line.specs.Line.{Line, line}
 use Rattle.program_line.specs.Reads.{ReadAs}
-use Rattle.program_line.specs.declared.Read.{Read}
+use Rattle.program_line.specs.declared.Reason.{Reason}
+use Rattle.std.specs.Prelude.{Some, None, Ok, Err}
 use Rattle.calculator_rules.specs.Definition.{operation}
 use Rattle.program_step.specs.Shown.{field, fields, mark, of_form, plain, whole, says, shown}
 
@@ -131,15 +132,15 @@ unfolding plain of_form
 plain_put s f e w1 w2 w3 w4 w5 = rw (← e) (then w1 (then (then w2 (then w3 w4)) w5))
 
 -- what the code reads back
-module _ (r : Read) (l : Line) (s : List ℕ) (e : ReadAs l r) where
-  pub says_empty : r.empty ≡ true → false ≡ says l s
-  says_empty h = rw (← e.says, h)
+module _ (l : Line) (s : List ℕ) where
+  pub says_nothing : ReadAs l (Ok None) → false ≡ says l s
+  says_nothing e = rw (← e.says)
 
-  pub says_refused : r.empty ≡ false → (r.reason ≡ 0 → ⊥) → false ≡ says l s
-  says_refused h k = rw (← e.says, h, ne_eqb r.reason 0 k)
+  pub says_refused : (reason : Reason) → ReadAs l (Err reason) → false ≡ says l s
+  says_refused reason e = rw (← e.says)
 
-  pub says_step : (b : Bool) → r.empty ≡ false → r.reason ≡ 0 → same r.step s ≡ b → b ≡ says l s
-  says_step b h k m = rw (← e.says, h, eq-eqb r.reason 0 k, m)
+  pub says_step : (t : List ℕ) (b : Bool) → ReadAs l (Ok (Some t)) → same t s ≡ b → b ≡ says l s
+  says_step t b e m = rw (← e.says, m)
 
 -- a plain line that is tried
 module _ {zeros trial : List ℕ} {n : ℕ} (s : List ℕ) (z : length zeros ≡ 256) (w : Wrote zeros 0 (plain s) trial n) where

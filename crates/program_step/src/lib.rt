@@ -93,15 +93,10 @@ fn same(a: &[u8], b: &[u8]) -> bool
 fn says(line: &[u8], step: &[u8]) -> bool
     ensures { result ≡ Shown.says (the-line line.now) step.now }
 {
-    let back = program_line::read_line(line);
-    if back.empty {
-        return false;
+    match program_line::read_line(line) {
+        Ok(Some(back)) => same(&back, step),
+        _ => false,
     }
-    if back.reason != 0 {
-        return false;
-    }
-    let s = back.step;
-    same(&s, step)
 }
 
 // Puts the line of a step, without a line's end, into a lent slice from a place on, and answers the place after it.

@@ -1,13 +1,12 @@
 -- Scanning, one character at a time, and what the place that is found says of the text. Assumes nothing.
 use mathlib.Core.Path.{◌≡◌, refl, sym, ap, ◌∙◌}
-use mathlib.Core.Bool.{Bool, true, false, cond, ◌&&◌}
+use mathlib.Core.Bool.{Bool, true, false, cond}
 use mathlib.Core.List.{List, [], ◌∷◌}
 use Prim.Native.Nat.{ℕ, suc, ◌+◌, ◌-◌, ◌<◌, ◌≤◌}
 use native.Mathlib.Nat.{add-zero}
 use native.Mathlib.Numerals.{add-one}
 use native.Mathlib.Omega.{arith}
-use lib.Dec.{eqb}
-use lib.ListN.{length, get_or, take, drop, drop_of_length-le, length-drop}
+use lib.ListN.{length, take, drop, drop_of_length-le, length-drop}
 use lib.Seq.{drop-cons, drop-drop}
 use Rattle.program_words.specs.Cut.{before, onward, comment, statement}
 use Rattle.program_words.specs.Stops.{Scanned}
@@ -61,15 +60,6 @@ module _ (stop : ℕ → Bool) where
     unfolding before
     at_end h = rw (drop_of_length-le text h) (sym (add-zero i))
 
-    pub at_stop : i < length text → stop (get_or text i 0) ≡ true → i ≡ i + length (before stop (drop i text))
-    unfolding before
-    at_stop h e = rw (drop-cons text i 0 h, e) (sym (add-zero i))
-
-    pub at_other : i < length text → stop (get_or text i 0) ≡ false
-        → i + length (before stop (drop i text)) ≡ i + 1 + length (before stop (drop (i + 1) text))
-    unfolding before
-    at_other h e = rw (drop-cons text i 0 h, e, add-one i) (omega arith)
-
 -- the same of a statement, which ends where a comment begins
 pub statement_short : (cs : List ℕ) → length (statement cs) ≤ length cs
 unfolding statement
@@ -103,29 +93,3 @@ module _ (line : List ℕ) (i : ℕ) where
     pub goes_on : comment (drop i line) ≡ false → i + length (statement (drop i line)) ≡ i + 1 + length (statement (drop (i + 1) line))
     unfolding statement
     goes_on e = rw (drop-cons line i 0 h, rw (drop-cons line i 0 h) at e, add-one i) (omega arith)
-
--- whether a comment begins at a place
-module _ (line : List ℕ) (at : ℕ) where
-  pub comment_none : length line ≤ at → false ≡ comment (drop at line)
-  comment_none h = rw (drop_of_length-le line h)
-
-  module _ (h : at < length line) where
-    one : drop at line ≡ get_or line at 0 ∷ drop (suc at) line
-    one = drop-cons line at 0 h
-
-    pub comment_hash : eqb (get_or line at 0) 35 ≡ true → true ≡ comment (drop at line)
-    comment_hash e = rw one (by (drop (suc at) line))
-      where
-        by : (cs : List ℕ) → true ≡ comment (get_or line at 0 ∷ cs)
-        by [] = sym e
-        by (d ∷ cs) = rw e
-
-    pub comment_last : eqb (get_or line at 0) 35 ≡ false → length line - at < 2 → false ≡ comment (drop at line)
-    comment_last e k = rw (one, drop_of_length-le line last) (sym e)
-      where
-        last : length line ≤ suc at
-        last = omega arith
-
-    pub comment_two : eqb (get_or line at 0) 35 ≡ false → 2 ≤ length line - at
-        → (eqb (get_or line at 0) 59 && eqb (get_or line (at + 1) 0) 59) ≡ comment (drop at line)
-    comment_two e k = rw (one, drop-cons line (suc at) 0 (omega arith), e, add-one at)

@@ -1,7 +1,7 @@
 // A text cut into lines, and a line into words: where a stretch of characters ends, and where a comment begins.
 #![tactic(auto)]
 
-ghost use Rattle.std.specs.Prelude.{◌+◌, ◌≡◌, length, drop};
+ghost use Rattle.std.specs.Prelude.{◌+◌, ◌≤◌, ◌≡◌, length, drop};
 ghost use Rattle.program_words.specs.Cut.{before, comment, statement, newline, pieces};
 ghost use Rattle.program_words.specs.Stops.{stops};
 
@@ -18,67 +18,48 @@ fn stops(what: Stop, c: u8) -> bool
 {
     match what {
         Stop::Line => c == b'\n',
-        Stop::Blank => (c == b' ') | ((c == b'\t') | (c == b'\r')),
-        Stop::Word => !((c == b' ') | ((c == b'\t') | (c == b'\r'))),
+        Stop::Blank => matches!(c, b' ' | b'\t' | b'\r'),
+        Stop::Word => !matches!(c, b' ' | b'\t' | b'\r'),
     }
 }
 
 // The first place from a place on at which a character stops; the text's end where none does.
 pub fn scan(text: &[u8], from: usize, what: Stop) -> usize
-    ensures { result ≡ from + length (before (stops what) (drop from text.now)) }
+    ensures place { result ≡ from + length (before (stops what) (drop from text.now)) }
+    ensures low { from ≤ result }
+    ensures high { from ≤ length text.now → result ≤ length text.now }
 {
-    let mut i = from;
-    while i < text.len() {
-        if stops(what, text[i]) {
-            return i;
+    match text.get(from..) {
+        Some(rest) => {
+            let passed = rest.iter().position(|c| stops(what, *c));
+            from + passed.unwrap_or(rest.len())
         }
-        i += 1;
+        None => from,
     }
-    i
 }
 
-// Whether a comment begins at a place: `#` or `;;`.
-fn opens(line: &[u8], at: usize) -> bool
-    ensures { result ≡ comment (drop at line.now) }
+// Whether a comment begins here: `#` or `;;`.
+fn opens(rest: &[u8]) -> bool
+    ensures { result ≡ comment rest.now }
 {
-    if at >= line.len() {
-        return false;
-    }
-    if line[at] == b'#' {
-        return true;
-    }
-    if line.len() - at < 2 {
-        return false;
-    }
-    (line[at] == b';') & (line[at + 1] == b';')
+    matches!(rest, [b'#', ..] | [b';', b';', ..])
 }
 
 // How long a line is without its comment.
 pub fn statement(line: &[u8]) -> usize
     ensures { result ≡ length (statement line.now) }
 {
-    let mut i = 0;
-    while i < line.len() {
-        if opens(line, i) {
+    for i in 0..line.len() {
+        if opens(&line[i..]) {
             return i;
         }
-        i += 1;
     }
-    i
+    line.len()
 }
 
 // How many lines a text has: one more than it has line's ends.
 pub fn lines(text: &[u8]) -> usize
     ensures { result ≡ length (pieces newline text.now) }
 {
-    let mut at = 0;
-    let mut n = 1;
-    loop {
-        let end = scan(text, at, Stop::Line);
-        if end == text.len() {
-            return n;
-        }
-        at = end + 1;
-        n += 1;
-    }
+    1 + text.iter().filter(|c| **c == b'\n').count()
 }

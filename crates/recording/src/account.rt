@@ -1,14 +1,17 @@
 // A step and the trace that it leaves in its record.
 ghost use Rattle.std.specs.Prelude.{◌≡◌, cond, ◌+◌, ◌*◌, ◌^◌, eqb};
 ghost use Rattle.standard.specs.Refusal.{given, refused};
+ghost use Rattle.standard.specs.Instruction.{kind_number};
 ghost use Rattle.calculator_rules.specs.Definition;
+ghost use Rattle.simd.specs.Number.{number};
+ghost use Rattle.calculator_scalar.specs.Scalar.{kind_of, bits_of};
 ghost use Rattle.calculator_state.specs.State.{held};
 ghost use Rattle.recording_fields.specs.Definition.{trace};
 ghost use Rattle.recording_rules.specs.Definition.{trace_of, next};
 
 use calculator_scalar::Scalar;
-use calculator_state::kind;
 use calculator_step::step;
+use simd::V128;
 
 // The scalar after a step, and its trace: the halves of the vector written, the number of the refusal, the scalar's kind and bits.
 #[derive(Clone, Copy)]
@@ -21,7 +24,26 @@ pub struct Left {
     pub bits: u64,
 }
 
-// The step at a place, counted from 0.
+impl Left {
+    fn of(scalar: Scalar, written: V128, refused: u8) -> Left
+        ensures scalar { result.scalar ≡ scalar }
+        ensures written { result.lo + 2 ^ 64 * result.hi ≡ number written }
+        ensures refused { result.refused ≡ refused }
+        ensures kind { result.kind ≡ kind_number (kind_of scalar) }
+        ensures bits { result.bits ≡ bits_of scalar }
+    {
+        Left {
+            scalar,
+            lo: written.lo,
+            hi: written.hi,
+            refused,
+            kind: scalar.kind().number(),
+            bits: scalar.bits(),
+        }
+    }
+}
+
+// The step at a place, counted from 0. A refused step writes no vector and leaves the scalar as it was.
 pub fn account(
     w: &mut [u64; 32],
     writers: &mut [u16; 16],
@@ -33,15 +55,8 @@ pub fn account(
     ensures onward { held w.new writers.new result.scalar ≡ next place (held w.old writers.old scalar) s.now }
     ensures answer { cond (eqb result.refused 0) (given (held w.new writers.new result.scalar)) (refused result.refused) ≡ Definition.step place (held w.old writers.old scalar) s.now }
 {
-    let stepped = step(w, writers, scalar, place, s);
-    let after = stepped.scalar;
-    let v = stepped.written;
-    Left {
-        scalar: after,
-        lo: v.lo,
-        hi: v.hi,
-        refused: stepped.refused,
-        kind: kind(after).number(),
-        bits: after.bits(),
+    match step(w, writers, scalar, place, s) {
+        Ok(stepped) => Left::of(stepped.scalar, stepped.written, 0),
+        Err(refusal) => Left::of(scalar, V128 { lo: 0, hi: 0 }, u8::from(refusal)),
     }
 }

@@ -20,19 +20,20 @@ fn count(list: &[u8]) -> usize
     let mut w = [0u64; 32];
     let mut writers = [0u16; 16];
     let mut scalar = Scalar::I32(0);
-    let mut at = 0;
-    while at < n {
+    for at in 0..n {
         let from = 32 * at;
-        let to = from + 32;
-        let stepped = step(&mut w, &mut writers, scalar, at as u8, &list[from..to]);
-        let refusal = stepped.refused;
-        scalar = stepped.scalar;
-        at += 1;
-        if refusal != 0 {
-            return at;
+        match step(
+            &mut w,
+            &mut writers,
+            scalar,
+            at as u8,
+            &list[from..from + 32],
+        ) {
+            Ok(stepped) => scalar = stepped.scalar,
+            Err(_) => return at + 1,
         }
     }
-    at
+    n
 }
 
 // Whether so many bytes have room for a recording. The steps are run only where a record of each would have none.
@@ -89,9 +90,8 @@ fn record_steps(list: &[u8], out: &mut [u8]) -> usize
 pub fn record(list: &[u8], out: &mut [u8]) -> Recorded
     ensures { (recorded_of result, out.new) ≡ recorded list.now out.old }
 {
-    let refused = calculator_limits::judge(list.len(), 0, 256);
-    if refused != 0 {
-        return Recorded::Refused(refused);
+    if let Err(refusal) = calculator_limits::judge(list.len(), 0, 256) {
+        return Recorded::Refused(u8::from(refusal));
     }
     if list.len() == 0 {
         return Recorded::Empty;

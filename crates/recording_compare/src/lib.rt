@@ -4,36 +4,31 @@
 ghost use Rattle.std.specs.Prelude.{suc, ◌+◌, ◌*◌, ◌^◌, ◌≤◌, ◌≡◌, length, take, drop};
 ghost use Rattle.standard.specs.Lanes.{digits};
 ghost use Rattle.recording_fields.specs.Definition.{trace, differs, compared};
-ghost use Rattle.recording_compare.specs.Verdict.{answer_of};
+ghost use Rattle.recording_compare.specs.Verdict.{verdict_of};
 
-use memory_access::Fetched64;
-use memory_bounds::Effective;
+use memory_access::Number;
 use recording_fields::{ending_word, scalar_word};
 
-// What a replay answers.
-#[derive(Clone, Copy)]
-pub enum Answer {
+/// What a replay says of a recording.
+#[derive(Clone, Copy, PartialEq, Eq, Debug)]
+pub enum Verdict {
     Agrees,
-    // the first record that is not what the definition gives, counted from 1
+    /// the first record that is not what the definition gives, counted from 1
     Differs(u16),
-    Refused(u8),
 }
 
 fn word(bytes: &[u8], at: usize) -> u64
     requires { at + 8 ≤ length bytes.now }
     ensures { digits 8 8 result ≡ take 8 (drop at bytes.now) }
 {
-    match memory_access::fetch64(bytes, Effective::Address(at)) {
-        Fetched64::Number(x) => x,
-        Fetched64::Past(_) => 0,
-    }
+    u64::read(&bytes[at..at + 8])
 }
 
 // "the first record that isn't, counted from 1"
-fn not_the_same(place: u8) -> Answer
-    ensures { answer_of result ≡ differs (suc place) }
+fn not_the_same(place: u8) -> Verdict
+    ensures { verdict_of result ≡ differs (suc place) }
 {
-    Answer::Differs(place as u16 + 1)
+    Verdict::Differs(place as u16 + 1)
 }
 
 // The record at a place, counted from 0, beside what the definition gives for its step: the halves of the vector written, the number of the refusal, and the
@@ -46,8 +41,8 @@ pub fn compare(
     refused: u8,
     kind: u8,
     bits: u64,
-) -> Answer
-    ensures { answer_of result ≡ compared place bytes.now (trace (lo + 2 ^ 64 * hi) refused kind bits) }
+) -> Verdict
+    ensures { verdict_of result ≡ compared place bytes.now (trace (lo + 2 ^ 64 * hi) refused kind bits) }
 {
     if bytes.len() != 64 {
         return not_the_same(place);
@@ -59,7 +54,7 @@ pub fn compare(
     let wanted = ending_word(refused, kind);
     let scalar = scalar_word(kind, bits);
     if (a == lo) & (b == hi) & (c == wanted) & (d == scalar) {
-        return Answer::Agrees;
+        return Verdict::Agrees;
     }
     not_the_same(place)
 }

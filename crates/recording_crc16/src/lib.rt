@@ -27,27 +27,18 @@ pub fn check(bytes: &[u8]) -> u16
     ensures { result ≡ check bytes.now }
 {
     let mut r: u16 = 65535;
-    let mut i = 0;
-    while i < bytes.len() {
-        r = feed(r, bytes[i]);
-        i += 1;
+    for byte in bytes {
+        r = feed(r, *byte);
     }
     r
 }
 
-// The number that two bytes spell, "high byte first".
-fn stored(high: u8, low: u8) -> u16
-    ensures { result ≡ high * 256 + low }
-{
-    high as u16 * 256 + low as u16
-}
-
-// Whether a block's last two bytes are the check of those before them.
+// Whether a block's last two bytes are the check of those before them, "high byte first".
 pub fn is_right(block: &[u8]) -> bool
     ensures { result ≡ right block.now }
 {
     if block.len() != 512 {
         return false;
     }
-    check(&block[..510]) == stored(block[510], block[511])
+    check(&block[..510]) == u16::from_be_bytes([block[510], block[511]])
 }

@@ -6,7 +6,7 @@ ghost use Rattle.standard.specs.Lanes.{digits};
 ghost use Rattle.standard.specs.Memory.{with_number};
 ghost use Rattle.recording_fields.specs.Definition.{wide, scalar_bytes, trace, recorded};
 
-use memory_bounds::Effective;
+use memory_access::Number;
 
 pub fn is_wide(kind: u8) -> bool
     ensures { result ≡ wide kind }
@@ -36,7 +36,7 @@ fn put_word(out: &mut [u8], at: usize, x: u64)
     requires { at + 8 ≤ length out.old }
     ensures { out.new ≡ with_number out.old at 8 x }
 {
-    memory_access::put64(out, Effective::Address(at), x);
+    x.write(&mut out[at..at + 8]);
 }
 
 // The record of a step of 32 bytes, over 64 bytes.

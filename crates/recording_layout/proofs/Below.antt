@@ -45,3 +45,9 @@ at (suc n) f e i h = go (ℕ_discrete i n) (at n f (both (each_below n f) (f n) 
     go : Dec (i ≡ n) → (i < n → f i ≡ true) → f i ≡ true
     go (yes p) before = ap f p ∙ (both (each_below n f) (f n) e).1
     go (no p) before = before (omega arith)
+
+-- two tests that agree
+pub same : (n : ℕ) (f g : ℕ → Bool) → ((i : ℕ) → i < n → f i ≡ g i) → each_below n f ≡ each_below n g
+unfolding each_below
+same zero f g h = refl
+same (suc n) f g h = rw (same n f g (λ i k. h i (omega arith)), h n (omega arith))

@@ -1,14 +1,12 @@
 // The layout of a field recording (document 02, order 8): the length of a file, and the checks of its blocks.
 #![tactic(auto)]
 
-ghost use Rattle.std.specs.Prelude.{◌≡◌};
-ghost use Rattle.recording_layout.specs.Definition.{each_below, whole_blocks, blocks, right_block};
+ghost use Rattle.std.specs.Prelude.{◌*◌, ◌<◌, ◌≡◌, length};
+ghost use Rattle.recording_layout.specs.Definition.{each_below, whole_blocks, blocks, right_block, record_at};
 
 use recording_crc16::is_right;
 
-// "length zero, no multiple of 512 or above 37 blocks"
-pub const LENGTH: u8 = 13;
-
+// Not "length zero, no multiple of 512 or above 37 blocks".
 pub fn is_whole(bytes: usize) -> bool
     ensures { result ≡ whole_blocks bytes }
 {
@@ -18,13 +16,20 @@ pub fn is_whole(bytes: usize) -> bool
 pub fn all_right(file: &[u8]) -> bool
     ensures { result ≡ each_below (blocks file.now) (right_block file.now) }
 {
-    let n = file.len() / 512;
-    for k in 0..n {
-        let from = 512 * k;
-        let to = from + 512;
-        if !is_right(&file[from..to]) {
-            return false;
-        }
-    }
-    true
+    let (blocks, _) = file.as_chunks::<512>();
+    blocks.iter().all(|block| is_right(block))
+}
+
+// The record at a place among those of the file, counted from 0: seven to a block, from byte 4 on.
+pub fn record_at(file: &[u8], at: usize) -> &[u8]
+    requires { at < 7 * blocks file.now }
+    ensures bytes { result.now ≡ record_at file.now at }
+    ensures len { length result.now ≡ 64 }
+{
+    let from = 512 * (at / 7);
+    let to = from + 512;
+    let b = &file[from..to];
+    let start = 4 + 64 * (at % 7);
+    let end = start + 64;
+    &b[start..end]
 }

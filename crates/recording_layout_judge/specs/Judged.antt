@@ -1,7 +1,9 @@
 -- What an answer of the code stands for.
+use Rattle.std.specs.Prelude.{ℕ, Result, Ok, Err}
+use Rattle.standard_refusal.specs.declared.Refusal.{Refusal}
+use Rattle.standard_refusal.specs.Number.{number_of}
 use Rattle.recording_layout.specs.Definition as definition
-use Rattle.recording_layout_judge.specs.declared.Judged.{Judged}
 
-abbrev pub judged_of : Judged → definition.Judged
-judged_of (Judged.Recording n) = definition.recording n
-judged_of (Judged.Refused n) = definition.refused n
+abbrev pub judged_of : Result ℕ Refusal → definition.Judged
+judged_of (Ok n) = definition.recording n
+judged_of (Err refusal) = definition.refused (number_of refusal)

@@ -5,35 +5,22 @@ ghost use Rattle.std.specs.Prelude.{◌+◌, ◌*◌, ◌≤◌, ◌<◌, ◌≡
 ghost use Rattle.recording_layout.specs.Definition.{each_below, blocks, count, record_at_laid, count_laid, block_laid, laid_block, records, judged};
 ghost use Rattle.recording_layout_judge.specs.Judged.{judged_of};
 
-use recording_layout::{LENGTH, all_right, is_whole};
+use recording_layout::{all_right, is_whole};
 use recording_layout_record::{is_record, zeros};
-
-// "a check fails"
-pub const CHECK: u8 = 14;
-
-// "any other rule of the layout"
-pub const LAYOUT: u8 = 15;
-
-// The number of records of a file that is a recording, or the number of its refusal.
-#[derive(Clone, Copy)]
-pub enum Judged {
-    Recording(usize),
-    Refused(u8),
-}
+use standard_refusal::Refusal;
 
 // The records of block k of n.
-fn are_records(b: &[u8], n: usize, k: usize) -> bool
-    requires b_len { length b.now ≡ 512 }
+fn are_records(b: &[u8; 512], n: usize, k: usize) -> bool
     requires b_bound { count b.now ≤ 7 }
     requires k_bound { k < 37 }
     ensures { result ≡ each_below (count b.now) (record_at_laid n k b.now) }
 {
     let count = b[2] as usize;
-    for i in 0..count {
-        let from = 4 + 64 * i;
-        let to = from + 64;
+    let end = 4 + 64 * count;
+    let (records, _) = b[4..end].as_chunks::<64>();
+    for (i, r) in records.iter().enumerate() {
         let is_last = (k + 1 == n) & (i + 1 == count);
-        if !is_record(&b[from..to], is_last) {
+        if !is_record(r, is_last) {
             return false;
         }
     }
@@ -61,8 +48,7 @@ fn number(low: u8, high: u8) -> usize
 }
 
 // Block k of n by the rules of the layout.
-fn is_block(b: &[u8], n: usize, k: usize) -> bool
-    requires b_len { length b.now ≡ 512 }
+fn is_block(b: &[u8; 512], n: usize, k: usize) -> bool
     requires k_bound { k < 37 }
     ensures { result ≡ block_laid n k b.now }
 {
@@ -87,11 +73,9 @@ fn all_laid(file: &[u8]) -> bool
     requires { blocks file.now ≤ 37 }
     ensures { result ≡ each_below (blocks file.now) (laid_block file.now) }
 {
-    let n = file.len() / 512;
-    for k in 0..n {
-        let from = 512 * k;
-        let to = from + 512;
-        if !is_block(&file[from..to], n, k) {
+    let (blocks, _) = file.as_chunks::<512>();
+    for (k, b) in blocks.iter().enumerate() {
+        if !is_block(b, blocks.len(), k) {
             return false;
         }
     }
@@ -110,18 +94,19 @@ fn count_records(file: &[u8]) -> usize
     7 * last + b[2] as usize
 }
 
+// The number of records of a file that is a recording, or why it is none.
 #[tactic(auto, unfolding(recording_layout::specs::Definition::refusal))]
-pub fn judge(file: &[u8]) -> Judged
+pub fn judge(file: &[u8]) -> Result<usize, Refusal>
     ensures { judged_of result ≡ judged file.now }
 {
     if !is_whole(file.len()) {
-        return Judged::Refused(LENGTH);
+        return Err(Refusal::Blocks);
     }
     if !all_right(file) {
-        return Judged::Refused(CHECK);
+        return Err(Refusal::Check);
     }
     if !all_laid(file) {
-        return Judged::Refused(LAYOUT);
+        return Err(Refusal::Layout);
     }
-    Judged::Recording(count_records(file))
+    Ok(count_records(file))
 }

@@ -1,27 +1,24 @@
 // Mending recordings (document 02, order 10): blocks whose check is wrong by one flipped bit.
 #![tactic(auto)]
 
-ghost use Rattle.std.specs.Prelude.{◌-◌, ◌%◌, ◌^◌, ◌≤◌, ◌≡◌, cond, ltb, length};
+ghost use Rattle.std.specs.Prelude.{◌-◌, ◌%◌, ◌^◌, ◌≤◌, ◌≡◌, Ok, length};
 ghost use Rattle.recording_layout.specs.Definition.{blocks};
-ghost use Rattle.recording_mending_rules.specs.Definition.{flipped, refused, done, mending};
+ghost use Rattle.recording_mending_rules.specs.Definition.{block_of, done, mending};
+ghost use Rattle.recording_mending_place.specs.Mended.{mended_of};
 ghost use Rattle.recording_mending.specs.Mended.{mending_of};
 
-use recording_layout::{LENGTH, is_whole};
-use recording_mending_place::{NONE, place};
+use recording_layout::is_whole;
+use recording_mending_place::{Bit, place};
+use standard_refusal::Refusal;
 
-// "output buffer shorter than the input, tested after 13"
-pub const SHORT: u8 = 16;
-
-#[derive(Clone, Copy)]
+#[derive(Clone, Copy, PartialEq, Eq, Debug)]
 pub struct Mending {
-    // the number of a refusal; 0 for none
-    pub refused: u8,
     // how many blocks were written
     pub written: usize,
     // whether the block after them could not be mended
     pub stopped: bool,
-    // of each block written the bit that was put back, or NONE
-    pub bits: [u16; 37],
+    // of each block written the bit that was put back, if any
+    pub bits: [Option<Bit>; 37],
 }
 
 // The weight of bit k in its byte.
@@ -33,27 +30,14 @@ fn weight(k: u16) -> u8
 }
 
 // A block with a bit put back, or as it is.
-fn put(b: &[u8], bit: u16, out: &mut [u8])
-    requires b_len { length b.now ≡ 512 }
-    requires out_len { length out.old ≡ 512 }
-    ensures { out.new ≡ cond (ltb bit 4096) (flipped bit b.now) b.now }
+fn put(b: &[u8; 512], bit: Option<Bit>, out: &mut [u8])
+    requires { length out.old ≡ 512 }
+    ensures { out.new ≡ block_of b.now (mended_of (Ok bit)) }
 {
     out.copy_from_slice(b);
-    if bit < NONE {
-        let i = (bit / 8) as usize;
-        out[i] = out[i] ^ weight(bit);
-    }
-}
-
-// Nothing written.
-fn refusal(number: u8) -> Mending
-    ensures { mending_of result ≡ refused number }
-{
-    Mending {
-        refused: number,
-        written: 0,
-        stopped: false,
-        bits: [NONE; 37],
+    if let Some(bit) = bit {
+        let i = (bit.number / 8) as usize;
+        out[i] ^= weight(bit.number);
     }
 }
 
@@ -61,30 +45,25 @@ fn refusal(number: u8) -> Mending
 fn mend_blocks(file: &[u8], out: &mut [u8]) -> Mending
     requires file_bound { blocks file.now ≤ 37 }
     requires file_in_bounds { length file.now ≤ length out.old }
-    ensures { (mending_of result, out.new) ≡ done file.now out.old }
+    ensures { (mending_of (Ok result), out.new) ≡ done file.now out.old }
 {
-    let n = file.len() / 512;
-    let mut bits = [NONE; 37];
-    let mut k = 0;
-    while k < n {
-        let from = 512 * k;
-        let to = from + 512;
-        let bit = place(&file[from..to]);
-        if bit > NONE {
+    let mut bits = [None; 37];
+    let (blocks, _) = file.as_chunks::<512>();
+    for (k, block) in blocks.iter().enumerate() {
+        let Ok(bit) = place(block) else {
             return Mending {
-                refused: 0,
                 written: k,
                 stopped: true,
                 bits,
             };
-        }
-        put(&file[from..to], bit, &mut out[from..to]);
+        };
+        let from = 512 * k;
+        let to = from + 512;
+        put(block, bit, &mut out[from..to]);
         bits[k] = bit;
-        k += 1;
     }
     Mending {
-        refused: 0,
-        written: k,
+        written: blocks.len(),
         stopped: false,
         bits,
     }
@@ -92,14 +71,14 @@ fn mend_blocks(file: &[u8], out: &mut [u8]) -> Mending
 
 // The blocks of a recording, mended where one bit mends them, at the start of the output.
 #[tactic(auto, unfolding(recording_mending_rules::specs::Definition::mending))]
-pub fn mend(file: &[u8], out: &mut [u8]) -> Mending
+pub fn mend(file: &[u8], out: &mut [u8]) -> Result<Mending, Refusal>
     ensures { (mending_of result, out.new) ≡ mending file.now out.old }
 {
     if !is_whole(file.len()) {
-        return refusal(LENGTH);
+        return Err(Refusal::Blocks);
     }
     if out.len() < file.len() {
-        return refusal(SHORT);
+        return Err(Refusal::Output);
     }
-    mend_blocks(file, out)
+    Ok(mend_blocks(file, out))
 }

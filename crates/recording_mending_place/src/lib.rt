@@ -3,16 +3,18 @@
 
 ghost use Rattle.std.specs.Prelude.{◌≡◌, cond, eqb, length};
 ghost use Rattle.recording_crc16.specs.Remainder.{shift};
-ghost use Rattle.recording_mending_rules.specs.Definition.{mended};
-ghost use Rattle.recording_mending_rules.specs.Place.{Place, number_of};
+ghost use Rattle.recording_mending_rules.specs.Definition.{beyond, mended};
+ghost use Rattle.recording_mending_rules.specs.Place.{Place};
+ghost use Rattle.recording_mending_place.specs.Mended.{number_of, mended_of};
 
+mod bit;
+
+pub use bit::Bit;
 use recording_crc16::check;
 
-// No bit was put back.
-pub const NONE: u16 = 4096;
-
-// The block can not be mended.
-pub const BEYOND: u16 = 4097;
+/// The block's check is wrong, and no single bit mends it.
+#[derive(Clone, Copy, PartialEq, Eq, Debug)]
+pub struct Beyond;
 
 // A register times x.
 fn next(r: u16) -> u16
@@ -21,34 +23,33 @@ fn next(r: u16) -> u16
     ((r >> 15) * 4129) ^ (r << 1)
 }
 
-// The bit whose flip gives the register q, found by a walk over the powers of x from the last bit on; 4096 if there is none.
-fn walk(q: u16) -> u16
-    ensures { Place q result }
+// The bit whose flip gives the register q, found by a walk over the powers of x from the last bit on.
+fn walk(q: u16) -> Option<Bit>
+    ensures { Place q (number_of result) }
 {
     let mut power: u16 = 4129;
     for i in 0..4096 {
         if power == q {
-            return 4095 - i;
+            return Some(Bit { number: 4095 - i });
         }
         power = next(power);
     }
-    4096
+    None
 }
 
-// What becomes of a block: the bit to put back, NONE, or BEYOND. Bytes that are not 512 are no block, and can not be mended.
-pub fn place(b: &[u8]) -> u16
-    ensures { result ≡ cond (eqb (length b.now) 512) (number_of (mended b.now)) 4097 }
+// What becomes of a block: the bit to put back, if any. Bytes that are not 512 are no block, and can not be mended.
+pub fn place(b: &[u8]) -> Result<Option<Bit>, Beyond>
+    ensures { mended_of result ≡ cond (eqb (length b.now) 512) (mended b.now) beyond }
 {
     if b.len() != 512 {
-        return BEYOND;
+        return Err(Beyond);
     }
     let q = check(b);
     if q == 0 {
-        return NONE;
+        return Ok(None);
     }
-    let k = walk(q);
-    if k < 4096 {
-        return k;
+    match walk(q) {
+        Some(bit) => Ok(Some(bit)),
+        None => Err(Beyond),
     }
-    BEYOND
 }

@@ -19,8 +19,8 @@ use Rattle.recording_crc16.proofs.Shift.{times-⊕, times_add, times_0, times_sm
 use Rattle.recording_crc16.proofs.Chunk.{run_lt}
 use Rattle.recording_crc16.proofs.Bytes.{run_byte, run_next}
 use Rattle.recording_layout.proofs.Below.{both}
-use Rattle.recording_mending_rules.specs.Definition.{flipped, bit_from, put_back, beyond, mended, block_of}
-use Rattle.recording_mending_rules.specs.Place.{Place, number_of}
+use Rattle.recording_mending_rules.specs.Definition.{flipped, bit_from, kept, put_back, beyond, mended, block_of}
+use Rattle.recording_mending_rules.specs.Place.{Place}
 use Rattle.recording_mending_rules.proofs.Bits.{Right, flip}
 use Rattle.recording_mending_rules.proofs.Apart.{apart}
 use Rattle.recording_mending_rules.proofs.Flip.{run_flip}
@@ -188,7 +188,7 @@ module _ (s : List ℕ) (block : Block s) where
       of (no e) go = rw (f j (omega arith)) (go (omega arith))
 
   -- what becomes of the block, by what its check tells
-  pub stays : check s ≡ 0 → 4096 ≡ number_of (mended s)
+  pub stays : check s ≡ 0 → mended s ≡ kept
   unfolding mended
   stays e = rw (zero_right s block e)
 
@@ -196,14 +196,14 @@ module _ (s : List ℕ) (block : Block s) where
     wrong : right s ≡ false
     wrong = not_zero s block (λ z. ne (e ∙ z))
 
-    pub turns : k < 4096 → k ≡ number_of (mended s)
+    pub turns : k < 4096 → mended s ≡ put_back k
     unfolding mended
     turns h =
         let b : bit_from 4096 0 s ≡ k = reaching 4096 0 k (omega arith) (omega arith) (right_flip s block k h (p.found h ∙ e))
         (λ i l. other q k i e p h (omega arith) (omega arith)) in
         rw (wrong, b, lt-ltb k 4096 h)
 
-    pub fails : 4096 ≤ k → 4097 ≡ number_of (mended s)
+    pub fails : 4096 ≤ k → mended s ≡ beyond
     unfolding mended
     fails h =
         let b : bit_from 4096 0 s ≡ 4096 = passing 4096 0 (λ i a l. none_right q k i e p h (omega arith)) in

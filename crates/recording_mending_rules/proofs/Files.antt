@@ -17,42 +17,6 @@ use Rattle.recording_crc16.specs.Block.{right}
 use Rattle.recording_layout.specs.Definition.{whole_blocks, blocks, block}
 use Rattle.recording_mending_rules.specs.Definition.{flipped, bit_from, Mended, kept, put_back, beyond, mended, block_of, bit_of, is_mended, written}
 use Rattle.recording_mending_rules.specs.Definition.{blocks_from, bits_from, Mending, refused, written_over, done, mending}
-use Rattle.recording_mending_rules.specs.Place.{number_of}
-
--- ---- what the code's number says of a block
-
--- a bit that is put back is one of the block's
-bounded : (b : List ℕ) (k : ℕ) → mended b ≡ put_back k → k < 4096
-unfolding mended
-bounded b k e = of (right b) (ltb (bit_from 4096 0 b) 4096) refl e
-  where
-    of : (t u : Bool) → ltb (bit_from 4096 0 b) 4096 ≡ u → cond t kept (cond u (put_back (bit_from 4096 0 b)) beyond) ≡ put_back k → k < 4096
-    of true u f g = let z : ◌≡◌ {A = ℕ} 0 1 = cc in absurd (omega arith)
-    of false false f g = let z : ◌≡◌ {A = ℕ} 0 1 = cc in absurd (omega arith)
-    of false true f g = let q : bit_from 4096 0 b ≡ k = cc in subst (λ (x : ℕ). x < 4096) q (ltb-true _ 4096 f)
-
--- the block can be written, with this bit put back
-pub record Mends (b : List ℕ) (r : ℕ) : Type 0 where
-  pub can : is_mended (mended b) ≡ true
-  pub bit : bit_of (mended b) ≡ r
-  pub block : cond (ltb r 4096) (flipped r b) b ≡ block_of b (mended b)
-
-pub mends : (b : List ℕ) (r : ℕ) → r ≡ number_of (mended b) → r ≤ 4096 → Mends b r
-mends b r e h = of (mended b) refl e
-  where
-    of : (m : Mended) → mended b ≡ m → r ≡ number_of m → Mends b r
-    of kept f g = record { can = ap is_mended f; bit = ap bit_of f ∙ sym g; block = rw (f, g) }
-    of (put_back k) f g =
-        record { can = ap is_mended f; bit = ap bit_of f ∙ sym g; block = rw (f, g, lt-ltb k 4096 (bounded b k f)) }
-    of beyond f g = absurd (omega arith)
-
-pub ends : (b : List ℕ) (r : ℕ) → r ≡ number_of (mended b) → 4096 < r → is_mended (mended b) ≡ false
-ends b r e h = of (mended b) refl e
-  where
-    of : (m : Mended) → mended b ≡ m → r ≡ number_of m → is_mended (mended b) ≡ false
-    of kept f g = absurd (omega arith)
-    of (put_back k) f g = absurd (let l = bounded b k f in omega arith)
-    of beyond f g = ap is_mended f
 
 -- ---- lists of blocks and of bits
 

@@ -1,7 +1,7 @@
 // Records that stand in the blocks of a buffer become a file (document 02, order 8).
 #![tactic(auto)]
 
-ghost use Rattle.std.specs.Prelude.{◌*◌, ◌≤◌, ◌<◌, min, ◌≡◌, cond, ◌++◌, ltb, length, take, drop};
+ghost use Rattle.std.specs.Prelude.{◌*◌, ◌≤◌, ◌<◌, ◌≡◌, cond, ◌++◌, ltb, length, take, drop};
 ghost use Rattle.recording_packing.specs.Definition.{packed_block, packed, blocks_for, fits, standing, sealed_into};
 
 use recording_crc16::check;
@@ -44,22 +44,17 @@ pub fn has_room(records: usize, out: usize) -> bool
     (records % 64 == 0) & (64 <= records) & (512 * ((records + 447) / 448) <= out)
 }
 
-fn smaller(a: usize, b: usize) -> usize
-    ensures { result ≡ min a b }
-{
-    if a < b { a } else { b }
-}
-
 fn seal_blocks(out: &mut [u8], n: usize)
     requires n_bound { n ≤ 256 }
     requires n_in_bounds { 512 * blocks_for (64 * n) ≤ length out.old }
     ensures { out.new ≡ packed (standing n out.old) ++ drop (512 * blocks_for (64 * n)) out.old }
 {
     let blocks = (n + 6) / 7;
+    // By index: of a slice that chunks_mut has lent out the library does not say what it holds afterwards.
     for k in 0..blocks {
         let start = 512 * k;
         let end = start + 512;
-        let count = smaller(7, n - 7 * k);
+        let count = usize::min(7, n - 7 * k);
         seal_block(&mut out[start..end], k, count);
     }
 }

@@ -4,7 +4,8 @@ use mathlib.Core.List.{List, [], ◌∷◌}
 use lib.ListN.{get_or}
 use Prim.Native.Nat.{ℕ, ◌-◌, ◌<◌}
 use native.Mathlib.Omega.{arith}
-use Rattle.standard_refusal.specs.Number.{number_of}
+use Rattle.std.specs.Prelude.{Result, Ok, Err}
+use Rattle.standard_refusal.specs.Number.{number_of, code_of}
 use Rattle.standard_refusal.specs.declared.Refusal.{Refusal}
 
 pub above_0 : (r : Refusal) → 0 < number_of r
@@ -62,3 +63,8 @@ back Refusal.Place = refl
 
 pub same_number : (a b : Refusal) → number_of a ≡ number_of b → a ≡ b
 same_number a b e = back a ∙ ap (λ (n : ℕ). get_or refusals (n - 1) Refusal.Place) e ∙ sym (back b)
+
+-- a result that is no refusal has the number 0
+pub unrefused : {A : Type 0} (r : Result A Refusal) → ((e : Refusal) → r ≡ Err e → ⊥) → code_of r ≡ 0
+unrefused (Ok x) n = refl
+unrefused (Err e) n = absurd (n e refl)

@@ -12,6 +12,6 @@ use Rattle.calculator_scalar.proofs.low16.Goals as goal
 
 pub returns : goal.returns
 returns c =
-    let f : Fits w16 (c.unsigned32.result % 65536) = omega arith in
-    ap (modulo 16) (kept w16 c.signed16.type_inv c.signed16.ensures) ∙ modulo_signed w16 _ f
-    ∙ rw (← to_z-of_z c.ranges.z, ← c.unsigned32.ensures)
+    let f : Fits w16 (c.of_signed.result % 65536) = omega arith in
+    ap (modulo 16) (kept w16 c.signed.type_inv c.signed.ensures) ∙ modulo_signed w16 _ f
+    ∙ rw (← to_z-of_z c.ranges.z, ← c.of_signed.ensures)

@@ -12,6 +12,6 @@ use Rattle.calculator_scalar.proofs.low8.Goals as goal
 
 pub returns : goal.returns
 returns c =
-    let f : Fits w8 (c.unsigned32.result % 256) = omega arith in
-    ap (modulo 8) (kept w8 c.signed8.type_inv c.signed8.ensures) ∙ modulo_signed w8 _ f
-    ∙ rw (← to_z-of_z c.ranges.z, ← c.unsigned32.ensures)
+    let f : Fits w8 (c.of_signed.result % 256) = omega arith in
+    ap (modulo 8) (kept w8 c.signed.type_inv c.signed.ensures) ∙ modulo_signed w8 _ f
+    ∙ rw (← to_z-of_z c.ranges.z, ← c.of_signed.ensures)

@@ -1,33 +1,24 @@
 -- `calculator_step::step` meets its contract: what the judge says, and where it is no refusal what is done. Assumes nothing.
 use mathlib.Core.Path.{◌≡◌, refl, ◌∙◌}
-use borrow.Author.Tests.{ne_eqb}
+use Rattle.std.proofs.lemmas.Result.{err_from_is_err_and}
+use Rattle.standard_refusal.proofs.Numbers.{not_0}
 use Rattle.calculator_state.specs.State.{held}
 use Rattle.calculator_step.specs.Done.{numbers}
-use Rattle.calculator_step.proofs.Performed.{passes, stops, tells}
+use Rattle.calculator_step.proofs.Performed.{passes, stops}
 use Rattle.calculator_step.proofs.step.Goals as goal
 
-pub returns-then-refused-eq0 : goal.returns-then-refused-eq0
-returns-then-refused-eq0 c =
+pub returns-in_err-judged-clause-result : goal.returns-in_err-judged-clause-result
+returns-in_err-judged-clause-result c =
     let a = c.args in
-    let m = held a.w.now a.writers.now a.scalar in
-    let t = c.if-refused-eq0.true in
-    let p = c.perform.ensures in
-    let e : c.number.new.writers ≡ numbers c.decide-shape.result a.place a.writers.now a.s.now = rw t at c.number.ensures in
-    let judged = rw c.kind.ensures at c.judge-refused.ensures in record {
-      result = rw p.passed (rw t at (passes a.place m a.s.now _ _ _ c.operation-op.ensures c.decide-shape.ensures judged _ t
-          (p.state c.number.new.writers ∙ rw e)));
-      left = λ n. absurd (n p.passed);
-      vector = rw p.passed (tells a.place m a.s.now _ _ _ c.operation-op.ensures c.decide-shape.ensures judged _ _ p.vector);
-    }
+    let p = err_from_is_err_and c.from_residual.result c.from_residual.ensures.1 in
+    let judged = rw (c.in_err-judged.was, c.kind.ensures) at c.judge-judged.ensures in
+    rw (p.1, p.2)
+    (stops a.place (held a.w.now a.writers.now a.scalar) a.s.now _ _ _ c.operation-op.ensures c.decide-shape.ensures judged (not_0 c.in_err-judged.field-0.0))
 
-pub returns-else-refused-eq0 : goal.returns-else-refused-eq0
-returns-else-refused-eq0 c =
+pub returns-clause-result : goal.returns-clause-result
+returns-clause-result c =
     let a = c.args in
-    let u = c.unwritten.ensures in
-    let n = c.if-refused-eq0.false in
-    let refused : c.unwritten.result.refused ≡ 0 → ⊥ = rw u.1 n in record {
-      result = rw (u.0, u.1) (stops a.place (held a.w.now a.writers.now a.scalar) a.s.now _ _ _ c.operation-op.ensures c.decide-shape.ensures
-          (rw c.kind.ensures at c.judge-refused.ensures) _ n);
-      left = λ _. (refl, c.number.ensures ∙ rw (ne_eqb _ _ n), u.0);
-      vector = rw (ne_eqb _ _ refused) u.2;
-    }
+    let judged = rw (c.in_ok-judged.was, c.kind.ensures) at c.judge-judged.ensures in
+    let e : c.number.new.writers ≡ numbers c.decide-shape.result a.place a.writers.now a.s.now = rw c.in_ok-judged.was at c.number.ensures in
+    passes a.place (held a.w.now a.writers.now a.scalar) a.s.now _ _ _ c.operation-op.ensures c.decide-shape.ensures judged _ refl
+    (c.perform.ensures.state c.number.new.writers ∙ rw e)

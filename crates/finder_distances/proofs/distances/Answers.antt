@@ -9,7 +9,7 @@ use Rattle.finder_distances.proofs.distances.Goals as goal
 pub row-requires : goal.row-requires
 row-requires c =
     let s = c.spread.ensures (refl, refl, below_none _) in
-    record { bit_bound = omega arith; k_bound = omega arith; by_index = λ j h. omega (arith, (s.2 j h).1, (s.2 j h).2) }
+    record { bit_bound = omega arith; k_bound = omega arith; nexts_are_bytes = λ j h. omega (arith, (s.2 j h).1, (s.2 j h).2) }
 
 pub loop-k-preserved : goal.loop-k-preserved
 loop-k-preserved c =

@@ -16,7 +16,7 @@ loop-j-init c = (search rules, λ bs byte room given laid. rw (add-zero (32 * c.
 pub seen-word-requires : goal.seen-word-requires
 seen-word-requires c =
     let given = c.args in
-    record { next_bound = c.requires.by_index ((given.bit + given.k) / 8 + c.loop-j.j) (omega arith); shift_bound = omega arith }
+    record { next_bound = c.requires.nexts_are_bytes ((given.bit + given.k) / 8 + c.loop-j.j) (omega arith); shift_bound = omega arith }
 
 pub loop-j-preserved : goal.loop-j-preserved
 loop-j-preserved c =

@@ -15,9 +15,9 @@ returns-then-passes c =
     record {
       reached = omega arith;
       inside = inr (omega arith, omega arith);
-      far = far_more given.buffer.now m t given.from c.passed-at.result c.passed.result (c.passed-at.ensures.by_index m t hm made)
-          (one.by_index m t hm made);
-      near = λ h k far. one.by_index_2 m t hm made (omega arith) far;
+      far = far_more given.buffer.now m t given.from c.passed-at.result c.passed.result (c.passed-at.ensures.far m t hm made)
+          (one.far m t hm made);
+      near = λ h k far. one.stops m t hm made (omega arith) far;
     }
 
 pub returns : goal.returns
@@ -27,5 +27,5 @@ returns c =
       reached = search rules;
       inside = inl refl;
       far = λ p h k. absurd (omega arith);
-      near = λ h k far. true≢false (sym (c.passes.ensures.by_index_2 m t hm made (omega arith) far) ∙ c.if-passes.false);
+      near = λ h k far. true≢false (sym (c.passes.ensures.all_far m t hm made (omega arith) far) ∙ c.if-passes.false);
     }

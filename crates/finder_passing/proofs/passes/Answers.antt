@@ -7,9 +7,9 @@ use Rattle.finder_passing.proofs.passes.Goals as goal
 
 pub returns-then-last-at : goal.returns-then-last-at
 returns-then-last-at c = record {
-  n_bound_2 = λ e. absurd (false≢true e);
-  by_index = λ m t hm made e. absurd (false≢true e);
-  by_index_2 = λ m t hm made room far. absurd (omega arith);
+  within = λ e. absurd (false≢true e);
+  far = λ m t hm made e. absurd (false≢true e);
+  all_far = λ m t hm made room far. absurd (omega arith);
 }
 
 pub loop-i-init : goal.loop-i-init
@@ -33,7 +33,7 @@ pub returns : goal.returns
 returns c =
     let loop = c.loop-i in
     let all : loop.i ≡ c.args.n = omega arith in record {
-      n_bound_2 = λ e. omega arith;
-      by_index = λ m t hm made e. rw all at ((loop.invariant.2 m t hm made).0 (eqb-true _ _ e));
-      by_index_2 = λ m t hm made room far. eq-eqb _ _ ((loop.invariant.2 m t hm made).1 (rw (← all) at far));
+      within = λ e. omega arith;
+      far = λ m t hm made e. rw all at ((loop.invariant.2 m t hm made).0 (eqb-true _ _ e));
+      all_far = λ m t hm made room far. eq-eqb _ _ ((loop.invariant.2 m t hm made).1 (rw (← all) at far));
     }

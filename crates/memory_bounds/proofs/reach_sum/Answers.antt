@@ -7,7 +7,7 @@ use Rattle.memory_bounds.proofs.reach_sum.Goals.{then-at-ptr-via-else-at-ptr+els
 
 pub returns-then-at-ptr : goal.returns-then-at-ptr
 returns-then-at-ptr c =
-    beyond_reach _ _ _ c.shortfall.ensures
+    beyond_reach _ _ _ c.of_access.ensures
     (elim c.then-at-ptr.branch [
       | then-at-ptr-via-then-at-ptr w ↦ omega arith
       | then-at-ptr-via-else-at-ptr+then-length-n w ↦ omega arith

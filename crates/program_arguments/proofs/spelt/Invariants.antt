@@ -1,12 +1,9 @@
 -- `program_arguments::spelt` meets its contract: what the characters still to come make of the value read is the answer. Assumes nothing.
-use Prim.Native.Nat.{◌-◌, ◌^◌, ◌<◌, ◌≤◌}
+use Prim.Native.Nat.{◌^◌, ◌<◌, ◌≤◌}
 use mathlib.Core.Path.{◌≡◌}
 use lib.ListN.{length, drop}
 use Rattle.program_arguments.specs.Arguments.{numeral}
 use Rattle.program_arguments.proofs.spelt.Given as goal
 
-abbrev pub invariant-loop-i : goal.invariant-loop-i
-invariant-loop-i l = (l.i ≤ length l.text) × (l.value < 2 ^ 32) × (numeral l.base 0 l.text ≡ numeral l.base l.value (drop l.i l.text))
-
-abbrev pub decreases-loop-i : goal.decreases-loop-i
-decreases-loop-i l = length l.text - l.i
+abbrev pub invariant-loop-c : goal.invariant-loop-c
+invariant-loop-c l = (l.c-index ≤ length l.text) × (l.value < 2 ^ 32) × (numeral l.base 0 l.text ≡ numeral l.base l.value (drop l.c-index l.text))

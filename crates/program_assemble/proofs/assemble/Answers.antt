@@ -5,8 +5,11 @@ use native.Mathlib.Omega.{arith}
 use mathlib.Core.Path.{◌≡◌, refl, sym}
 use lib.ListN.{length, replicate}
 use lib.Seq.{length-take-le}
+use Rattle.std.specs.Prelude.{Ok, Err}
 use Rattle.program_digits.proofs.Puts.{filled}
 use Rattle.program_answer.proofs.None.{none}
+use Rattle.program_line.proofs.Lines.{above_0}
+use Rattle.program_assemble.specs.Meaning.{read_of}
 use Rattle.program_assemble.proofs.Texts.{complaint_length, told_long, told_wrong, list_fits, told_list, list_short}
 use Rattle.program_assemble.proofs.assemble.Goals as goal
 
@@ -19,22 +22,20 @@ slice_bounds-lines-end c = sym (length-take-le 65536 c.args.text.now (search rul
 pub returns-then-text-gt65536 : goal.returns-then-text-gt65536
 returns-then-text-gt65536 c =
     rw (told_long c.args.text.now (search rules), ← c.lines-line.ensures)
-    (record { output = none _; said = filled (complaint_length _ _) (search rules) c.put_complaint-n.ensures })
+    (record { output = none _; said = filled (complaint_length _ _) (search rules) c.put_complaint.ensures })
 
-pub returns-then-reason-ne0 : goal.returns-then-reason-ne0
-returns-then-reason-ne0 c =
-    rw (told_wrong c.args.text.now (search rules)
-    c.read_text-read.result _ _ c.read_text-read.ensures (search rules))
-    (record { output = none _; said = filled (complaint_length _ _) (search rules) c.put_complaint-n-then-reason-ne0.ensures })
+pub slice_bounds-put-end-in-Ok : goal.slice_bounds-put-end-in-Ok
+slice_bounds-put-end-in-Ok c =
+    sym (length-take-le _ _ (list_fits _ (search rules) (read_of (Ok c.in-Ok.steps)) _ _ c.in-Ok.ensures (omega (arith, zeros))))
 
-pub slice_bounds-put-end-2 : goal.slice_bounds-put-end-2
-slice_bounds-put-end-2 c = sym (length-take-le _ _
-    (list_fits _ (search rules) c.read_text-read.result _ _
-    c.read_text-read.ensures (omega (arith, zeros))))
+pub returns-in-Ok : goal.returns-in-Ok
+returns-in-Ok c =
+    let read = read_of (Ok c.in-Ok.steps) in
+    rw (told_list c.args.text.now (search rules) read _ _ c.in-Ok.ensures (omega (arith, zeros)) (search rules))
+    (record { output = filled (list_short read _ c.in-Ok.ensures.most) (search rules) c.put.ensures; said = none _ })
 
-pub returns : goal.returns
-returns c =
-    let read = c.read_text-read in
-    rw (told_list c.args.text.now (search rules) read.result _ _
-    read.ensures (omega (arith, zeros)) (search rules))
-    (record { output = filled (list_short read.result _ read.ensures.most) (search rules) c.put-n.ensures; said = none _ })
+pub returns-in-Err : goal.returns-in-Err
+returns-in-Err c =
+    let fault = c.in-Err.fault in
+    rw (told_wrong c.args.text.now (search rules) (read_of (Err fault)) _ _ c.in-Err.ensures (above_0 fault.reason))
+    (record { output = none _; said = filled (complaint_length _ _) (search rules) c.put_complaint-in-Err.ensures })

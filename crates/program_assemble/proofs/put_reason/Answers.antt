@@ -6,4 +6,4 @@ use Rattle.program_assemble.proofs.put_reason.Goals as goal
 
 pub returns : goal.returns
 unfolding why reasons codes pieces
-returns c = c.put_line.ensures
+returns c = rw (← c.from.ensures) c.put_line.ensures

@@ -1,25 +1,26 @@
 -- `program_disassemble::disassemble` meets its contract, by what is judged of the length. Assumes nothing.
 use borrow.Author.Rules.{rules}
 use mathlib.Core.Path.{sym, ◌∙◌}
+use Rattle.standard_refusal.proofs.Numbers.{not_0, unrefused}
 use Rattle.program_digits.specs.Codes.{codes}
 use Rattle.program_digits.proofs.Puts.{filled}
 use Rattle.program_answer.proofs.None.{none}
 use Rattle.program_disassemble.proofs.Lines.{said_length, text_length, told_refused, told_text}
 use Rattle.program_disassemble.proofs.disassemble.Goals as goal
 
-pub returns-then-refused-ne0 : goal.returns-then-refused-ne0
+pub returns-in-Err : goal.returns-in-Err
 unfolding codes
-returns-then-refused-ne0 c =
-    let judged = c.judge-refused in
-    rw (told_refused _ judged.result judged.ensures c.if-refused-ne0.true)
-    (record { output = none _; said = filled (said_length judged.result) (search rules) c.put_count-n.ensures })
+returns-in-Err c =
+    let n = c.from-number.result in
+    rw (told_refused _ n (c.from-number.ensures ∙ c.in-Err.ensures) (rw c.from-number.ensures (not_0 c.in-Err.refusal)))
+    (record { output = none _; said = filled (said_length n) (search rules) c.put_count.ensures })
 
 pub returns : goal.returns
 returns c =
-    let judged = c.judge-refused in
-    rw (told_text _ judged.result judged.ensures (search rules))
+    let passed = unrefused _ c.in_default.not-Err in
+    rw (told_text _ _ c.judge.ensures passed)
     (record {
-      output = filled (text_length c.args.list.now (sym judged.ensures ∙ search rules))
-          (search rules) c.put_steps-n.ensures;
+      output = filled (text_length c.args.list.now (sym c.judge.ensures ∙ passed))
+          (search rules) c.put_steps.ensures;
       said = none _;
     })

@@ -1,15 +1,15 @@
 -- `program_recordings::put_bit` meets its contract. Assumes nothing.
-use borrow.Author.Rules.{rules}
-use borrow.Author.Tests.{lt-ltb, le-ltb}
+use borrow.Author.Tests.{lt-ltb}
 use Rattle.program_digits.specs.Codes.{codes}
-use Rattle.program_digits.proofs.Puts.{then, no_more}
+use Rattle.program_digits.proofs.Puts.{then, no_more, said_as}
 use Rattle.program_recordings.proofs.put_bit.Goals as goal
 
-pub returns-then-bit-lt4096 : goal.returns-then-bit-lt4096
+pub returns-in-Some : goal.returns-in-Some
 unfolding codes
-returns-then-bit-lt4096 c = simp (lt-ltb c.args.bit 4096
-    c.if-bit-lt4096.true) (search (rules, then))
+returns-in-Some c =
+    let w = then c.put_number-next.ensures c.put_count.ensures in
+    said_as (rw (c.in-Some.is, lt-ltb c.in-Some.bit.number 4096 c.in-Some.bit.in_block)) w
 
-pub returns : goal.returns
+pub returns-in-None : goal.returns-in-None
 unfolding codes
-returns c = simp (le-ltb c.args.bit 4096 c.if-bit-lt4096.false) (no_more _ _)
+returns-in-None c = rw c.in-None.is (no_more _ _)

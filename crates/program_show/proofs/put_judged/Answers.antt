@@ -8,16 +8,16 @@ use Rattle.program_show.proofs.put_judged.Goals as goal
 
 pub put_records-requires : goal.put_records-requires
 put_records-requires c =
-    let e = counted c.args.file.now c.in-Recording.n (sym (rw c.in-Recording.is at c.judge.ensures)) in
+    let e = counted c.args.file.now c.in-Ok.n (sym (rw c.in-Ok.is at c.judge.ensures)) in
     record { n_bound = e.0; n_bound_2 = e.1 }
 
-pub returns-in-Recording : goal.returns-in-Recording
-returns-in-Recording c =
+pub returns-in-Ok : goal.returns-in-Ok
+returns-in-Ok c =
     let file = c.args.file.now in
-    said_as (ap (λ (x : layout.Judged). show_judged x file) (sym (rw c.in-Recording.is at
+    said_as (ap (λ (x : layout.Judged). show_judged x file) (sym (rw c.in-Ok.is at
     c.judge.ensures))) c.put_records.ensures
 
-pub returns-in-Refused : goal.returns-in-Refused
-returns-in-Refused c =
+pub returns-in-Err : goal.returns-in-Err
+returns-in-Err c =
     let file = c.args.file.now in
-    said_as (ap (λ (x : layout.Judged). show_judged x file) (sym (rw c.in-Refused.is at c.judge.ensures))) (no_more _ _)
+    said_as (ap (λ (x : layout.Judged). show_judged x file) (sym (rw c.in-Err.is at c.judge.ensures))) (no_more _ _)

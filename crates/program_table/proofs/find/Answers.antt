@@ -15,16 +15,16 @@ use Rattle.std.proofs.lemmas.Bool.Decides.{Decides-eqb}
 use Rattle.program_table.proofs.find.Goals as goal
 
 pub slice_bounds-eq-count : goal.slice_bounds-eq-count
-slice_bounds-eq-count c = omega (arith, (scanned newline _ _ _ c.loop-line.invariant.0 c.scan-end.ensures).low)
+slice_bounds-eq-count c = omega (arith, (scanned newline _ _ _ c.loop-line.invariant.0 c.scan-end.ensures.place).low)
 
 pub slice_bounds-eq-start : goal.slice_bounds-eq-start
 slice_bounds-eq-start c =
-    let scan = scanned newline _ _ _ c.loop-line.invariant.0 c.scan-end.ensures in
+    let scan = scanned newline _ _ _ c.loop-line.invariant.0 c.scan-end.ensures.place in
     omega (arith, scan.low, scan.high)
 
 pub slice_bounds-eq-end : goal.slice_bounds-eq-end
 slice_bounds-eq-end c =
-    let scan = scanned newline _ _ _ c.loop-line.invariant.0 c.scan-end.ensures in
+    let scan = scanned newline _ _ _ c.loop-line.invariant.0 c.scan-end.ensures.place in
     omega (arith, scan.low, scan.high)
 
 pub returns-then-eq : goal.returns-then-eq
@@ -32,7 +32,7 @@ returns-then-eq c =
     let at = c.loop-line in
     let same = slice_eq-Decides Decides-eqb (take (c.scan-end.result - at.at) (drop at.at c.args.lines.now)) c.args.line.now _ c.eq.ensures in
     let piece = same.0 c.if-eq.true in
-    let scan = scanned newline _ _ _ c.loop-line.invariant.0 c.scan-end.ensures in
+    let scan = scanned newline _ _ _ c.loop-line.invariant.0 c.scan-end.ensures.place in
     sym (at.invariant.2 ∙ rw (first_piece newline _ _ _ scan, place_here _ _ _ piece, add-zero))
 
 pub returns-then-end-lines : goal.returns-then-end-lines
@@ -43,15 +43,15 @@ returns-then-end-lines c =
     let other :
     take (c.scan-end.result - at.at) (drop at.at c.args.lines.now) ≡ c.args.line.now → ⊥ =
     λ e. false≢true (sym c.if-eq.false ∙ same.1 e) in
-    let scan = scanned newline _ _ _ c.loop-line.invariant.0 c.scan-end.ensures in
+    let scan = scanned newline _ _ _ c.loop-line.invariant.0 c.scan-end.ensures.place in
     sym (at.invariant.2 ∙ rw (last_piece newline _ _ _ scan (omega arith), place_later _ _ _ other) (omega arith))
 
 pub overflow_add-at : goal.overflow_add-at
-overflow_add-at c = omega (arith, (scanned newline _ _ _ c.loop-line.invariant.0 c.scan-end.ensures).high)
+overflow_add-at c = omega (arith, (scanned newline _ _ _ c.loop-line.invariant.0 c.scan-end.ensures.place).high)
 
 pub loop-line-smaller : goal.loop-line-smaller
 loop-line-smaller c =
-    let scan = scanned newline _ _ _ c.loop-line.invariant.0 c.scan-end.ensures in
+    let scan = scanned newline _ _ _ c.loop-line.invariant.0 c.scan-end.ensures.place in
     omega (arith, scan.low, scan.high)
 
 pub loop-line-preserved : goal.loop-line-preserved
@@ -61,7 +61,7 @@ loop-line-preserved c =
     let other :
     take (c.scan-end.result - at.at) (drop at.at c.args.lines.now) ≡ c.args.line.now → ⊥ =
     λ e. false≢true (sym c.if-eq.false ∙ same.1 e) in
-    let scan = scanned newline _ _ _ c.loop-line.invariant.0 c.scan-end.ensures in (
+    let scan = scanned newline _ _ _ c.loop-line.invariant.0 c.scan-end.ensures.place in (
       omega (arith, scan.high),
       omega (arith, scan.low),
       at.invariant.2

@@ -10,33 +10,22 @@ use Rattle.recording_crc16.specs.Remainder.{run, bits, spread, check}
 use Rattle.recording_crc16.proofs.Bytes.{run_next}
 use Rattle.recording_crc16.proofs.check.Goals as goal
 
-pub loop-i-init : goal.loop-i-init
+pub loop-byte-init : goal.loop-byte-init
 unfolding run spread
-loop-i-init c = (omega arith, refl)
-
-pub bounds-bytes-i : goal.bounds-bytes-i
-bounds-bytes-i c = omega arith
-
-pub overflow_add-i : goal.overflow_add-i
-overflow_add-i c = omega arith
-
-pub loop-i-smaller : goal.loop-i-smaller
-loop-i-smaller c = omega arith
+loop-byte-init c = refl
 
 next : (s : List ℕ) (i r q : ℕ) → i < length s → r ≡ run 65535 (spread (take i s)) → q ≡ run r (bits 8 (get_or s i 0))
     → q ≡ run 65535 (spread (take (i + 1) s))
 next s i r q h e f =
     f ∙ ap (λ (x : ℕ). run x (bits 8 (get_or s i 0))) e ∙ sym (run_next s i 65535 h) ∙ ap (λ (n : ℕ). run 65535 (spread (take n s))) (sym (add-one i))
 
-pub loop-i-preserved : goal.loop-i-preserved
-loop-i-preserved c = (
-  omega arith,
-  next c.args.bytes.now c.loop-i.i c.loop-i.r
-      c.feed-r.result (omega arith) c.loop-i.invariant.1 c.feed-r.ensures,
-)
+pub loop-byte-preserved : goal.loop-byte-preserved
+loop-byte-preserved c =
+    next c.args.bytes.now c.loop-byte.byte-index c.loop-byte.r
+    c.feed-r.result (omega arith) c.loop-byte.invariant c.feed-r.ensures
 
 pub returns : goal.returns
 unfolding check
 returns c =
-    c.loop-i.invariant.1
-    ∙ ap (λ (l : List ℕ). run 65535 (spread l)) (take_all c.loop-i.i c.args.bytes.now (omega arith))
+    c.loop-byte.invariant
+    ∙ ap (λ (l : List ℕ). run 65535 (spread l)) (take_all c.loop-byte.byte-index c.args.bytes.now (omega arith))

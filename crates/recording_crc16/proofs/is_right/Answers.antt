@@ -16,4 +16,4 @@ slice_bounds-check-end c = sym (length-take-le 510 c.args.block.now (omega arith
 pub returns : goal.returns
 unfolding right
 returns c =
-    rw (c.check.ensures, c.stored.ensures, eq-eqb _ _ c.if-block-ne512.false)
+    rw (c.check.ensures, c.from_be_bytes.ensures, eq-eqb _ _ c.if-block-ne512.false)

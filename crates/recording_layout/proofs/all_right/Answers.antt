@@ -1,51 +1,15 @@
 -- `recording_layout::all_right` meets its contract. Assumes nothing.
-use mathlib.Core.Path.{◌≡◌, refl, sym, ◌∙◌}
-use native.Mathlib.Omega.{arith}
-use Rattle.recording_layout.specs.Definition.{each_below, blocks, right_block}
-use Rattle.recording_layout.proofs.Below.{fails, passes}
+use Rattle.std.proofs.Common.{rules, tests, ◌∙◌, ◌/◌, length}
+use Rattle.std.proofs.lemmas.Iterator.{YieldsList-from_slice}
+use Rattle.std.proofs.lemmas.Iterator.Search.{all_from_yields_List}
+use Rattle.std.specs.Simd.{first_chunks}
+use Rattle.recording_crc16.specs.Block.{right}
+use Rattle.recording_layout.proofs.Chunks.{all_pieces}
 use Rattle.recording_layout.proofs.all_right.Goals as goal
-
-pub loop-k-init : goal.loop-k-init
-unfolding each_below
-loop-k-init c = (refl, omega arith, refl)
-
-pub returns-then-not-is_right : goal.returns-then-not-is_right
-returns-then-not-is_right c =
-    let file = c.args.file.now in
-    sym (fails (blocks file) (right_block file) c.loop-k.k (omega arith)
-    (sym c.is_right.ensures ∙ c.if-not-is_right.true))
-
-pub loop-k-preserved : goal.loop-k-preserved
-loop-k-preserved c =
-    let file = c.args.file.now in (
-      refl,
-      omega arith,
-      passes c.loop-k.k (right_block file) c.loop-k.invariant.2
-          (sym c.is_right.ensures ∙ c.if-not-is_right.false),
-    )
 
 pub returns : goal.returns
 returns c =
-    let e : c.loop-k.k ≡ blocks c.args.file.now = omega arith in
-    sym (rw e at c.loop-k.invariant.2)
-
-pub overflow_mul-from : goal.overflow_mul-from
-overflow_mul-from c = omega arith
-
-pub overflow_add-to : goal.overflow_add-to
-overflow_add-to c = omega arith
-
-pub slice_bounds-is_right-count : goal.slice_bounds-is_right-count
-slice_bounds-is_right-count c = omega arith
-
-pub slice_bounds-is_right-start : goal.slice_bounds-is_right-start
-slice_bounds-is_right-start c = omega arith
-
-pub slice_bounds-is_right-end : goal.slice_bounds-is_right-end
-slice_bounds-is_right-end c = omega arith
-
-pub overflow_step-k : goal.overflow_step-k
-overflow_step-k c = omega arith
-
-pub loop-k-smaller : goal.loop-k-smaller
-loop-k-smaller c = omega arith
+    let file = c.args.file.now in
+    let blocks = first_chunks 512 (length file / 512) file in
+    all_from_yields_List right _ _ _ c.all.ensures.ran (YieldsList-from_slice blocks cc) (λ x b q k. search (rules, tests))
+    ∙ all_pieces 512 right (length file / 512) file

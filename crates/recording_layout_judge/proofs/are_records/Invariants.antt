@@ -1,12 +1,8 @@
 -- `recording_layout_judge::are_records` meets its contract. Assumes nothing.
 use mathlib.Core.Path.{◌≡◌}
 use mathlib.Core.Bool.{true}
-use Prim.Native.Nat.{◌-◌, ◌≤◌}
-use Rattle.recording_layout.specs.Definition.{count, each_below, record_at_laid}
+use Rattle.recording_layout.specs.Definition.{each_below, record_at_laid}
 use Rattle.recording_layout_judge.proofs.are_records.Given as goal
 
 abbrev pub invariant-loop-i : goal.invariant-loop-i
-invariant-loop-i l = (l.count ≡ count l.b) × (l.i ≤ l.count) × (each_below l.i (record_at_laid l.n l.k l.b) ≡ true)
-
-abbrev pub decreases-loop-i : goal.decreases-loop-i
-decreases-loop-i l = l.count - l.i
+invariant-loop-i l = each_below l.i (record_at_laid l.n l.k l.b) ≡ true

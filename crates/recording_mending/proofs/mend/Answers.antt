@@ -1,8 +1,6 @@
 -- `recording_mending::mend` meets its contract. Assumes nothing.
-use mathlib.Core.Path.{sym, ap, ◌∙◌}
-use borrow.Author.Tests.{le-leb, lt-leb}
+use mathlib.Core.Path.{sym, ◌∙◌}
 use Rattle.recording_layout.proofs.Files.{whole}
-use Rattle.recording_mending_rules.specs.Definition.{Mending, mending}
 use Rattle.recording_mending.proofs.mend.Goals as goal
 
 pub mend_blocks-requires : goal.mend_blocks-requires

@@ -21,7 +21,7 @@ seal_block-requires c =
       block_len = length-take-le (512 * l.k + 512 - 512 * l.k) (drop (512 * l.k) l.out) (simp length-drop (omega arith))
           ∙ (let e : 512 * l.k + 512 - 512 * l.k ≡ 512 = omega arith in e);
       k_bound = omega arith;
-      count_bound = omega (arith, c.smaller-count.ensures);
+      count_bound = omega (arith, c.min-count.ensures);
     }
 
 pub loop-k-preserved : goal.loop-k-preserved
@@ -29,7 +29,7 @@ loop-k-preserved c =
     let l = c.loop-k in
     let a = c.args in
     let out₀ = a.out.now in
-    let e = block_records a.n l.k out₀ (omega arith) (omega arith) (standing a.n out₀) l.out l.invariant.3 c.smaller-count.ensures in (
+    let e = block_records a.n l.k out₀ (omega arith) (omega arith) (standing a.n out₀) l.out l.invariant.3 c.min-count.ensures in (
       refl,
       omega arith,
       same_len_mid (512 * l.k) (512 * l.k + 512 - 512 * l.k) l.out c.seal_block.new.block c.seal_block.auto.block ∙ l.invariant.2,

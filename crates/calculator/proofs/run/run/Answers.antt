@@ -4,4 +4,4 @@ use Rattle.calculator.proofs.run.run.Goals as goal
 
 pub returns : goal.returns
 returns c =
-    rw c.of_words-registers.ensures (c.run_words-stopped.ensures ∙ rw c.words-w.ensures)
+    rw c.of_words.ensures (c.run_words-stopped.ensures ∙ rw c.words-w.ensures)

@@ -3,8 +3,8 @@ use mathlib.Core.Path.{◌≡◌, sym, ◌∙◌}
 use Prim.Native.Nat.{◌+◌, ◌/◌, ◌*◌, ◌-◌, ◌<◌}
 use native.Mathlib.Omega.{arith}
 use lib.ListN.{length, take, drop}
-use borrow.Author.Tests.{ne_eqb}
 use Rattle.standard.specs.Refusal.{given, refused}
+use Rattle.standard_refusal.specs.Number.{number_of}
 use Rattle.calculator_rules.specs.Definition.{step}
 use Rattle.calculator_state.specs.State.{held}
 use Rattle.calculator.proofs.Runs.{starts, turn, stop, stops_here}
@@ -15,21 +15,20 @@ loop-at-init c =
     let a = c.args in
     (omega arith, omega (arith, c.stop-end.ensures), starts (length a.list.now / 32) a.place a.limit a.list.now _)
 
-pub returns-then-refused-ne0 : goal.returns-then-refused-ne0
-returns-then-refused-ne0 c =
+pub returns-in-Err : goal.returns-in-Err
+returns-in-Err c =
     let l = c.loop-at in
     let s = c.stop-end in
     let a = c.args in
     let list = a.list.now in
     let n = length list / 32 in
-    let t = c.if-refused-ne0.true in
     let more : l.at < n = omega (arith, s.ensures) in
     let allowed : l.at < a.place + a.limit = omega (arith, s.ensures) in
     let part : 32 * l.at + 32 - 32 * l.at ≡ 32 = omega arith in
-    let e : step l.at (held l.w l.writers l.scalar) (take 32 (drop (32 * l.at) list)) ≡ refused c.step-stepped.result.refused =
-    (rw (part, ne_eqb _ _ t) at (sym c.step-stepped.ensures.result)) in
-    let left = c.step-stepped.ensures.left t in
-    rw (left.0, left.1, left.2)
+    let e : step l.at (held l.w l.writers l.scalar) (take 32 (drop (32 * l.at) list)) ≡ refused (number_of c.in-Err.refusal) =
+    (rw part at (sym c.in-Err.ensures.result)) in
+    let left = c.in-Err.ensures.left in
+    rw (left.0, left.1)
     (sym (stop n a.place a.limit l.at list (held l.w l.writers l.scalar) l.invariant.0 more allowed _ e) ∙ l.invariant.2)
 
 pub loop-at-preserved : goal.loop-at-preserved
@@ -43,8 +42,8 @@ loop-at-preserved c =
     let allowed : l.at < a.place + a.limit = omega (arith, s.ensures) in
     let part : 32 * l.at + 32 - 32 * l.at ≡ 32 = omega arith in
     let e : step l.at (held l.w l.writers l.scalar) (take 32 (drop (32 * l.at) list))
-    ≡ given (held c.step-stepped.new.w c.step-stepped.new.writers c.step-stepped.result.scalar) =
-    (rw (part, c.if-refused-ne0.false) at (sym c.step-stepped.ensures.result)) in
+    ≡ given (held c.step.new.w c.step.new.writers c.in-Ok.left.scalar) =
+    (rw part at (sym c.in-Ok.ensures.result)) in
     (omega arith, omega arith, sym (turn n a.place a.limit l.at list (held l.w l.writers l.scalar) l.invariant.0 more allowed _ e) ∙ l.invariant.2)
 
 pub returns : goal.returns
@@ -54,6 +53,7 @@ returns c =
     let a = c.args in
     let list = a.list.now in
     let n = length list / 32 in
+    let ended : s.result ≡ l.at = omega arith in
     let met : l.at < n → l.at ≡ a.place + a.limit = λ h. omega (arith, s.ensures) in
-    rw c.stopped_at.ensures
+    rw (c.stopped_at.ensures, ended)
     (sym (stops_here n a.place a.limit l.at list (held l.w l.writers l.scalar) l.invariant.0 met) ∙ l.invariant.2)

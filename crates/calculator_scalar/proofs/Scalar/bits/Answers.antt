@@ -9,10 +9,10 @@ pub returns-in-I32 : goal.returns-in-I32
 returns-in-I32 c =
     let p = c.in-I32.x in
     let e : to_z w32 (of_z w32 p) ≡ p = search rules in
-    rw (c.in-I32.is, ← e) c.unsigned32.ensures
+    rw (c.in-I32.is, ← e) c.of_signed.ensures
 
 pub returns-in-I64 : goal.returns-in-I64
 returns-in-I64 c =
     let p = c.in-I64.x in
     let e : to_z w64 (of_z w64 p) ≡ p = search rules in
-    rw (c.in-I64.is, ← e) c.unsigned64.ensures
+    rw (c.in-I64.is, ← e) c.of_signed.ensures

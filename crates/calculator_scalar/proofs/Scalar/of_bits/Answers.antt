@@ -13,4 +13,4 @@ returns c =
     let x = c.args.x in
     let f : Fits w32 x = search rules in
     let e : modulo 32 (signed 32 x) ≡ x = modulo_signed w32 x f in
-    rw (kept w32 c.signed32.type_inv c.signed32.ensures, e)
+    rw (kept w32 c.signed.type_inv c.signed.ensures, e)

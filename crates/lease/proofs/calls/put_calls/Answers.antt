@@ -42,7 +42,7 @@ returns-in-Refused c =
     rest _ _ (said_as (stopped_call (fuel - 1) a.list.now l.at a.limit l.before (machine l.state)
     c.run-ending.ensures _
     (rw c.in-Refused.is))
-    (then c.put_call-next.ensures c.put_listing-in-Refused.ensures))
+    (then c.put_call-next.ensures (rw c.from.ensures at c.put_listing-in-Refused.ensures)))
 
 pub returns-then-limit-eq0 : goal.returns-then-limit-eq0
 returns-then-limit-eq0 c =

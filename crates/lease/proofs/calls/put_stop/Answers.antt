@@ -12,4 +12,4 @@ returns-in-Paused c = rw c.in-Paused.is c.put_number.ensures
 
 pub returns-in-Refused : goal.returns-in-Refused
 unfolding codes
-returns-in-Refused c = rw c.in-Refused.is c.put_number-in-Refused.ensures
+returns-in-Refused c = rw (c.in-Refused.is, ← c.from.ensures) c.put_number-in-Refused.ensures

@@ -13,4 +13,4 @@ returns c =
     let x = c.args.bits in
     let f : Fits w64 x = search rules in
     let e : modulo 64 (signed 64 x) ≡ x = modulo_signed w64 x f in
-    rw (kept w64 c.signed64.type_inv c.signed64.ensures, e)
+    rw (kept w64 c.signed.type_inv c.signed.ensures, e)

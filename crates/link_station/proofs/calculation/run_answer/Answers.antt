@@ -9,4 +9,4 @@ pub returns-in-Paused : goal.returns-in-Paused
 returns-in-Paused c = rw c.in-Paused.is refl
 
 pub returns-in-Refused : goal.returns-in-Refused
-returns-in-Refused c = rw c.in-Refused.is refl
+returns-in-Refused c = rw (c.in-Refused.is, c.from.ensures) refl

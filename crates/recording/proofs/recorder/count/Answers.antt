@@ -3,7 +3,10 @@ use mathlib.Core.Path.{◌≡◌, refl, ◌∙◌}
 use Prim.Native.Nat.{ℕ, ◌+◌, ◌-◌, ◌*◌, ◌/◌}
 use native.Mathlib.Nat.{sub-zero}
 use native.Mathlib.Omega.{arith}
+use borrow.Author.Tests.{ne_eqb}
 use lib.ListN.{length}
+use Rattle.standard_refusal.specs.Number.{number_of}
+use Rattle.standard_refusal.proofs.Numbers.{not_0}
 use Rattle.calculator_rules.specs.Definition.{start}
 use Rattle.calculator_state.specs.State.{held}
 use Rattle.recording_rules.specs.Definition.{records_from, records_of}
@@ -19,27 +22,27 @@ loop-at-init c =
     let list = c.args.list.now in
     (refl, omega arith, omega arith, at_start (λ (k : ℕ). length (records_from k 0 list start)) (length list / 32))
 
-pub returns-then-refusal-ne0 : goal.returns-then-refusal-ne0
-returns-then-refusal-ne0 c =
+pub returns-in-Err : goal.returns-in-Err
+returns-in-Err c =
     let l = c.loop-at in
     let a = c.args in
-    let s = c.step-stepped in (
+    let r = c.in-Err.field-0 in
+    let some = ne_eqb _ _ (not_0 r) in
+    let m = held l.w l.writers l.scalar in (
       omega arith,
-      count_last (length a.list.now / 32) l.at a.list.now (held l.w l.writers l.scalar) (omega arith) (omega arith)
-          s.result.refused (held s.new.w s.new.writers s.result.scalar) s.ensures.result c.if-refusal-ne0.true
+      count_last (length a.list.now / 32) l.at a.list.now m (omega arith) (omega arith) (number_of r) m (rw some c.in-Err.ensures.result) (not_0 r)
           ∙ l.invariant.3,
     )
 
 pub loop-at-preserved : goal.loop-at-preserved
 loop-at-preserved c =
     let l = c.loop-at in
-    let a = c.args in
-    let s = c.step-stepped in (
+    let a = c.args in (
       refl,
       omega arith,
       l.invariant.2,
       count_more (length a.list.now / 32) l.at a.list.now (held l.w l.writers l.scalar) (omega arith) (omega arith)
-          s.result.refused (held s.new.w s.new.writers s.result.scalar) s.ensures.result c.if-refusal-ne0.false
+          0 (held c.step.new.w c.step.new.writers c.in-Ok.stepped.scalar) c.in-Ok.ensures.result refl
           ∙ l.invariant.3,
     )
 
@@ -47,28 +50,6 @@ pub returns : goal.returns
 returns c =
     let l = c.loop-at in
     let a = c.args in
-    (omega arith, count_end (length a.list.now / 32) l.at a.list.now (held l.w l.writers l.scalar) (omega arith) ∙ l.invariant.3)
-
-pub overflow_mul-from : goal.overflow_mul-from
-overflow_mul-from c = omega arith
-
-pub overflow_add-to : goal.overflow_add-to
-overflow_add-to c = omega arith
-
-pub overflow_cast-at : goal.overflow_cast-at
-overflow_cast-at c = omega arith
-
-pub slice_bounds-step-count : goal.slice_bounds-step-count
-slice_bounds-step-count c = omega arith
-
-pub slice_bounds-step-start : goal.slice_bounds-step-start
-slice_bounds-step-start c = omega arith
-
-pub slice_bounds-step-end : goal.slice_bounds-step-end
-slice_bounds-step-end c = omega arith
-
-pub overflow_add-at : goal.overflow_add-at
-overflow_add-at c = omega arith
-
-pub loop-at-smaller : goal.loop-at-smaller
-loop-at-smaller c = omega arith
+    let n = length a.list.now / 32 in
+    let all : 64 * l.at ≡ length (records_of a.list.now) = count_end n l.at a.list.now (held l.w l.writers l.scalar) (omega arith) ∙ l.invariant.3 in
+    (omega arith, omega arith)

@@ -1,5 +1,0 @@
--- `calculator_limits::judge` meets its contract: the tests one after the other, as the definition has them. Assumes nothing.
-use Rattle.calculator_limits.proofs.judge.Goals as goal
-
-pub returns : goal.returns
-returns c = cc

@@ -1,9 +1,0 @@
--- `memory_loads::splat32_from` meets its contract. Assumes nothing.
-use Rattle.memory_access.proofs.Shapes.{splatted, unsplatted}
-use Rattle.memory_loads.proofs.splat32_from.Goals as goal
-
-pub returns-in-Number : goal.returns-in-Number
-returns-in-Number c = splatted _ _ 32 (rw c.in-Number.is at c.fetch32.ensures) c.splat32.ensures
-
-pub returns-in-Past : goal.returns-in-Past
-returns-in-Past c = unsplatted _ _ 32 (rw c.in-Past.is at c.fetch32.ensures)
