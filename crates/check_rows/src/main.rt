@@ -9,6 +9,7 @@ ghost use Rattle.std.specs.Prelude.{◌≤◌};
 
 use memory_access::{Effective, fetch};
 use simd::V128;
+use standard_refusal::{Refusal, code};
 use std::io;
 
 const RECORD: usize = 1924;
@@ -44,7 +45,7 @@ fn at_most_80(n: u8) -> usize
     if n < 80 { n as usize } else { 80 }
 }
 
-fn over_rows(op: u8, first: &mut [u64], second: &[u64]) -> u8 {
+fn over_rows(op: u8, first: &mut [u64], second: &[u64]) -> Result<(), Refusal> {
     match op {
         ADD => row_halves::i8x16_add(first, second),
         XOR => row_halves::v128_xor(first, second),
@@ -107,7 +108,7 @@ fn differs(record: &[u8; 1924]) -> bool {
     let was = row(record, FIRST);
     let second = row(record, SECOND);
     let mut first = was;
-    let refused = over_rows(op, &mut first[..n], &second[..m]);
+    let refused = code(over_rows(op, &mut first[..n], &second[..m]));
     refused != record[3]
         || !same(&first, &row(record, EXPECTED))
         || !same(&first, &singly(op, vectors(record), was, second))

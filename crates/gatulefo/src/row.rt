@@ -6,12 +6,14 @@ ghost use Rattle.standard.specs.Integer.{iadd, ixor, ipopcnt};
 ghost use Rattle.standard.specs.Lanes.{unary, binary, zip};
 ghost use Rattle.row_halves.specs.Rows.{vectors, halves, half_refusal, after};
 
+use standard_refusal::code;
+
 #[unsafe(no_mangle)]
 pub extern "C" fn gatulefo_row_i8x16_add(first: &mut [u64], second: &[u64]) -> u8
     ensures value { result ≡ half_refusal (length first.old) (length second.now) }
     ensures first_after { first.new ≡ after result (halves (zip (binary 8 (iadd 8)) (vectors first.old) (vectors second.now))) first.old }
 {
-    row_halves::i8x16_add(first, second)
+    code(row_halves::i8x16_add(first, second))
 }
 
 #[unsafe(no_mangle)]
@@ -19,7 +21,7 @@ pub extern "C" fn gatulefo_row_v128_xor(first: &mut [u64], second: &[u64]) -> u8
     ensures value { result ≡ half_refusal (length first.old) (length second.now) }
     ensures first_after { first.new ≡ after result (halves (zip (ixor 128) (vectors first.old) (vectors second.now))) first.old }
 {
-    row_halves::v128_xor(first, second)
+    code(row_halves::v128_xor(first, second))
 }
 
 #[unsafe(no_mangle)]
@@ -27,5 +29,5 @@ pub extern "C" fn gatulefo_row_i8x16_popcnt(first: &mut [u64]) -> u8
     ensures value { result ≡ half_refusal (length first.old) (length first.old) }
     ensures first_after { first.new ≡ after result (halves (map (unary 8 (ipopcnt 8)) (vectors first.old))) first.old }
 {
-    row_halves::i8x16_popcnt(first)
+    code(row_halves::i8x16_popcnt(first))
 }

@@ -5,19 +5,20 @@ ghost use Rattle.standard.specs.Lanes.{unary, binary};
 ghost use Rattle.row_vectors.specs.Rows.{Combined, Mapped};
 
 use simd::V128;
+use standard_refusal::code;
 
 #[unsafe(no_mangle)]
 pub extern "C" fn gatulefo_vector_row_i8x16_add(first: &mut [V128], second: &[V128]) -> u8
     ensures { Combined (binary 8 (iadd 8)) first.old second.now result first.new }
 {
-    row_vectors::i8x16_add(first, second)
+    code(row_vectors::i8x16_add(first, second))
 }
 
 #[unsafe(no_mangle)]
 pub extern "C" fn gatulefo_vector_row_v128_xor(first: &mut [V128], second: &[V128]) -> u8
     ensures { Combined (ixor 128) first.old second.now result first.new }
 {
-    row_vectors::v128_xor(first, second)
+    code(row_vectors::v128_xor(first, second))
 }
 
 #[unsafe(no_mangle)]

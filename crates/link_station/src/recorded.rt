@@ -5,7 +5,7 @@ ghost use Rattle.recording_compare.specs.Verdict.{answer_of};
 ghost use Rattle.link_station.specs.Recording.{recorder_numbers, record_numbers, replayed, replay_numbers};
 
 use recording_compare::Verdict;
-use recording_rules::Recorded;
+use recording_rules::RecordError;
 use standard_refusal::Refusal;
 
 // How many bytes were written. None where the list has no step, the recording would overflow the buffer, or the list is refused: the number, 1; else 0.
@@ -26,33 +26,34 @@ pub struct ReplayAnswer {
     pub refused: u8,
 }
 
-pub fn record_answer(answer: Recorded) -> RecordAnswer
+#[tactic(auto, unfolding(crate::specs::Recording::recorder_numbers))]
+pub fn record_answer(answer: Result<usize, RecordError>) -> RecordAnswer
     ensures { record_numbers result ≡ recorder_numbers (recorded_of answer) }
 {
     match answer {
-        Recorded::Bytes(bytes) => RecordAnswer {
+        Ok(bytes) => RecordAnswer {
             bytes,
             empty: false,
             overflow: false,
             refused: 0,
         },
-        Recorded::Empty => RecordAnswer {
+        Err(RecordError::Empty) => RecordAnswer {
             bytes: 0,
             empty: true,
             overflow: false,
             refused: 0,
         },
-        Recorded::Short => RecordAnswer {
+        Err(RecordError::Short) => RecordAnswer {
             bytes: 0,
             empty: false,
             overflow: true,
             refused: 0,
         },
-        Recorded::Refused(refused) => RecordAnswer {
+        Err(RecordError::Refused(refusal)) => RecordAnswer {
             bytes: 0,
             empty: false,
             overflow: false,
-            refused,
+            refused: u8::from(refusal),
         },
     }
 }

@@ -2,7 +2,7 @@
 // replay can be put from any place on.
 #![tactic(auto)]
 
-ghost use Rattle.std.specs.Prelude.{◌≤◌, length, map};
+ghost use Rattle.std.specs.Prelude.{◌≤◌, Err, length, map};
 ghost use Rattle.recording_compare.specs.Verdict as trace;
 ghost use Rattle.recording_rules.specs.Recorded as records;
 ghost use Rattle.recording_mending_place.specs.Mended.{number_of};
@@ -14,7 +14,7 @@ use program_digits::{put, put_count, put_number};
 use recording_compare::Verdict;
 use recording_mending::Mending;
 use recording_mending_place::Bit;
-use recording_rules::Recorded;
+use recording_rules::RecordError;
 use standard_refusal::Refusal;
 
 // The line of what a replay answers, from a place on: `show` ends with it.
@@ -35,15 +35,24 @@ pub fn replay(answer: Result<Verdict, Refusal>, out: &mut [u8; 32]) -> usize
     put_answer(out, 0, answer)
 }
 
+#[tactic(auto, unfolding(crate::specs::Lines::record_said, program_digits::specs::Codes::codes))]
+fn put_error(out: &mut [u8], error: RecordError) -> usize
+    ensures { Wrote out.old 0 (record_said (records.recorded_of (Err error))) out.new result }
+{
+    match error {
+        RecordError::Empty => put(out, 0, b"the list is empty\n"),
+        RecordError::Short => put(out, 0, b"record: no room\n"),
+        RecordError::Refused(refusal) => put_count(out, 0, b"refused ", u8::from(refusal) as u64),
+    }
+}
+
 // What `record` says on standard error.
-pub fn record_said(recorded: Recorded, out: &mut [u8; 32]) -> usize
+pub fn record_said(recorded: Result<usize, RecordError>, out: &mut [u8; 32]) -> usize
     ensures { Filled out.old (record_said (records.recorded_of recorded)) out.new result }
 {
     match recorded {
-        Recorded::Bytes(_) => 0,
-        Recorded::Empty => put(out, 0, b"the list is empty\n"),
-        Recorded::Short => put(out, 0, b"record: no room\n"),
-        Recorded::Refused(number) => put_count(out, 0, b"refused ", number as u64),
+        Ok(_) => 0,
+        Err(error) => put_error(out, error),
     }
 }
 

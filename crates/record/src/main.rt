@@ -3,13 +3,13 @@
 #![tactic(auto)]
 
 use program_system::{complain, has_argument, tell_status};
-use recording::recorder::{Recorded, record};
+use recording::recorder::record;
 
 // The longest recording is 37 blocks.
 fn write_recording(rt: &HostRuntime, list: &[u8]) {
     let mut out = [0u8; 18944];
     let recorded = record(list, &mut out);
-    if let Recorded::Bytes(length) = recorded {
+    if let Ok(length) = recorded {
         if let Err(error) = rt.write_all(&out[..length]) {
             complain(rt, "record: standard output", error);
             return;

@@ -9,7 +9,7 @@ use crate::account::account;
 use calculator_scalar::Scalar;
 use calculator_step::step;
 use recording_packing::has_room;
-pub use recording_rules::Recorded;
+pub use recording_rules::RecordError;
 
 // How many records a list of whole steps leaves. A refused step is the last.
 fn count(list: &[u8]) -> usize
@@ -86,20 +86,18 @@ fn record_steps(list: &[u8], out: &mut [u8]) -> usize
     at
 }
 
-// The recording of a list at the start of a buffer that has room for it.
-pub fn record(list: &[u8], out: &mut [u8]) -> Recorded
+// The recording of a list at the start of a buffer that has room for it: how many bytes were written.
+pub fn record(list: &[u8], out: &mut [u8]) -> Result<usize, RecordError>
     ensures { (recorded_of result, out.new) ≡ recorded list.now out.old }
 {
-    if let Err(refusal) = calculator_limits::judge(list.len(), 0, 256) {
-        return Recorded::Refused(u8::from(refusal));
-    }
+    calculator_limits::judge(list.len(), 0, 256)?;
     if list.len() == 0 {
-        return Recorded::Empty;
+        return Err(RecordError::Empty);
     }
     if !has_room_for(list, out.len()) {
-        return Recorded::Short;
+        return Err(RecordError::Short);
     }
     let n = record_steps(list, out);
     recording_packing::seal(out, n);
-    Recorded::Bytes(512 * ((n + 6) / 7))
+    Ok(512 * ((n + 6) / 7))
 }

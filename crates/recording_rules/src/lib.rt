@@ -1,14 +1,26 @@
-// Field recordings (document 02, order 8): the definition, and what the recorder answers.
+// Field recordings (document 02, order 8): the definition, and why the recorder writes nothing.
 #![tactic(auto)]
 
-// How many bytes were written, or why none were.
-#[derive(Clone, Copy)]
-pub enum Recorded {
-    Bytes(usize),
-    // the list has no step, so there is nothing to record
+ghost use Rattle.std.specs.Prelude.{◌≡◌};
+ghost use Rattle.recording_rules.specs.declared.RecordError.TheVariants.{Refused};
+
+use standard_refusal::Refusal;
+
+/// Why the recorder wrote no byte.
+#[derive(Clone, Copy, PartialEq, Eq, Debug)]
+pub enum RecordError {
+    /// the list has no step, so there is nothing to record
     Empty,
-    // the buffer is shorter than the recording
+    /// the buffer is shorter than the recording
     Short,
-    // the list is refused: the number
-    Refused(u8),
+    /// the list is refused
+    Refused(Refusal),
+}
+
+impl From<Refusal> for RecordError {
+    ghost from_gives = { λ refusal error. error ≡ Refused refusal };
+
+    fn from(refusal: Refusal) -> RecordError {
+        RecordError::Refused(refusal)
+    }
 }

@@ -11,15 +11,18 @@ use mir.Val.{Fits}
 use borrow.Author.Tests.{eqb-true}
 use lib.Dec.{eqb}
 use lib.ListN.{length, get_or, set, length-set}
-use Rattle.standard.specs.Integer.{iadd, ipopcnt}
+use borrow.Author.Rules.{rules}
+use Rattle.std.specs.Prelude.{Result, Ok, Err, IsErr}
+use Rattle.standard_refusal.specs.declared.Refusal.{Refusal}
+use Rattle.standard_refusal.specs.Number.{number_of, code_of}
+use Rattle.standard_refusal.proofs.Numbers.{not_0}
+use Rattle.standard.specs.Integer.{ipopcnt}
 use Rattle.standard.specs.Lanes.{unary, zip}
-use Rattle.standard.proofs.Bitwise.{bitwise_halves}
 use Rattle.standard.proofs.Digits.{low_digit, rest_digits}
-use Rattle.standard.proofs.Halves.{unary_halves, binary_halves}
+use Rattle.standard.proofs.Halves.{unary_halves}
 use Rattle.standard.proofs.Loop.{zip_map}
-use Rattle.packed_half.specs.Half.{half_unary, half_binary}
-use Rattle.row_halves.specs.Rows.{vectors, halves, half_refusal, after}
-use Rattle.row_halves.specs.Choose.{vector_of, half_of}
+use Rattle.packed_half.specs.Half.{half_unary}
+use Rattle.row_halves.specs.Rows.{vectors, halves, half_refusal, after, ByHalves}
 use Rattle.row_halves.proofs.Upto.{Each, Upto, same, next, full}
 
 -- rows that are not refused: equally long, and even
@@ -34,9 +37,6 @@ fits n m e = by (eqb (n % 2) 0) refl (eqb n m) refl e
 -- what a turn of the loop finds and leaves: two halves, and g of them
 abbrev pub Halved : (ℕ → ℕ → ℕ) → ℕ → ℕ → ℕ → Type 0
 Halved g x y z = (x < 2 ^ 64) × ((y < 2 ^ 64) × ((z < 2 ^ 64) × (z ≡ g x y)))
-
-abbrev pub ByHalves : (ℕ → ℕ → ℕ) → (ℕ → ℕ → ℕ) → Type 0
-ByHalves f g = (a b c d : ℕ) → a < 2 ^ 64 → c < 2 ^ 64 → g a c + 2 ^ 64 * g b d ≡ f (a + 2 ^ 64 * b) (c + 2 ^ 64 * d)
 
 pub paired : (f g : ℕ → ℕ → ℕ) → ByHalves f g → (xs ys zs : List ℕ) → length xs % 2 ≡ 0 → Each (Halved g) xs ys zs → zs
     ≡ halves (zip f (vectors xs) (vectors ys))
@@ -53,11 +53,6 @@ paired f g by (x ∷ x' ∷ xs) (y ∷ y' ∷ ys) (z ∷ z' ∷ zs) even (low, (
     ∙ by x x' y y' low.0 low.1.0 in
     ap₂ ◌∷◌ (sym (low_digit 64 z z' low.1.1.0) ∙ ap (λ (v : ℕ). v % 2 ^ 64) whole)
     (ap₂ ◌∷◌ (sym (rest_digits 64 z z' low.1.1.0) ∙ ap (λ (v : ℕ). v / 2 ^ 64) whole) (paired f g by xs ys zs (omega (arith, even)) rest))
-
-pub by_halves : (op : ℕ) → ByHalves (vector_of op) (half_of op)
-unfolding half_binary
-by_halves zero a b c d ha hc = binary_halves 8 8 refl refl a b ha (iadd 8) c d hc refl refl
-by_halves (suc n) a b c d ha hc = bitwise_halves _ a b c d ha hc refl refl
 
 -- The loop's invariant over the halves, at its start, after a turn and at its end.
 abbrev pub Turning : (ℕ → ℕ → ℕ) → List ℕ → List ℕ → List ℕ → ℕ → Type 0
@@ -87,6 +82,10 @@ all_counted xs zs i even over t =
     ∙ ap halves (zip_map (unary 8 (ipopcnt 8)) (vectors xs))
 
 -- a refused call leaves the row
-pub kept : (r : ℕ) (written before : List ℕ) → (r ≡ 0 → ⊥) → before ≡ after r written before
-kept zero written before refused = absurd (refused refl)
-kept (suc r) written before refused = refl
+pub kept : {A : Type 0} (r : Result A Refusal) (written before : List ℕ) → IsErr r → before ≡ after (code_of r) written before
+kept (Ok x) written before e = absurd (search rules)
+kept (Err q) written before e = by (number_of q) (not_0 q)
+  where
+    by : (n : ℕ) → (n ≡ 0 → ⊥) → before ≡ after n written before
+    by zero refused = absurd (refused refl)
+    by (suc n) refused = refl

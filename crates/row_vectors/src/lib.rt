@@ -1,51 +1,53 @@
 // i8x16 add, exclusive-or and popcnt over lent rows of vectors, written over the first row (document 02, order 6), in the form that documents 01 and 02 name: a
-// row is a slice of vector structs. The texts of the two functions on two rows are alike, and one invariant serves both (`Turning`, proofs/Numbers.antt).
+// row is a slice of vector structs.
 #![tactic(auto)]
 
+ghost use Rattle.std.specs.Prelude.{ℕ, ◌≡◌};
 ghost use Rattle.standard.specs.Integer.{iadd, ixor, ipopcnt};
 ghost use Rattle.standard.specs.Lanes.{unary, binary};
+ghost use Rattle.standard_refusal.specs.Number.{code_of};
+ghost use Rattle.simd.specs.Number.{number};
+ghost use Rattle.simd.specs.declared.V128.{V128};
 ghost use Rattle.row_vectors.specs.Rows.{Combined, Mapped};
 
 use simd::V128;
+use standard_refusal::Refusal;
 
 // "12 when the two rows differ in length".
-const UNEVEN: u8 = 12;
-
-pub fn i8x16_add(first: &mut [V128], second: &[V128]) -> u8
-    ensures { Combined (binary 8 (iadd 8)) first.old second.now result first.new }
+fn combine<F: Fn(V128, V128) -> V128>(
+    first: &mut [V128],
+    second: &[V128],
+    f: F,
+) -> Result<(), Refusal>
+    requires { F.IsAlwaysCallable f }
+    ensures { (g : ℕ → ℕ → ℕ) → ((a b r : V128) → F.post f a b r → number r ≡ g (number a) (number b)) → Combined g first.old second.now (code_of result) first.new }
 {
     if first.len() != second.len() {
-        return UNEVEN;
+        return Err(Refusal::Rows);
     }
-    let mut i: usize = 0;
-    while i < first.len() {
-        first[i] = packed_vector::i8x16_add(first[i], second[i]);
-        i += 1;
+    for (i, a) in first.iter_mut().enumerate() {
+        *a = f(*a, second[i]);
     }
-    0
+    Ok(())
 }
 
-pub fn v128_xor(first: &mut [V128], second: &[V128]) -> u8
-    ensures { Combined (ixor 128) first.old second.now result first.new }
+pub fn i8x16_add(first: &mut [V128], second: &[V128]) -> Result<(), Refusal>
+    ensures { Combined (binary 8 (iadd 8)) first.old second.now (code_of result) first.new }
 {
-    if first.len() != second.len() {
-        return UNEVEN;
-    }
-    let mut i: usize = 0;
-    while i < first.len() {
-        first[i] = first[i].v128_xor(second[i]);
-        i += 1;
-    }
-    0
+    combine(first, second, packed_vector::i8x16_add)
+}
+
+pub fn v128_xor(first: &mut [V128], second: &[V128]) -> Result<(), Refusal>
+    ensures { Combined (ixor 128) first.old second.now (code_of result) first.new }
+{
+    combine(first, second, V128::v128_xor)
 }
 
 // No row is refused.
 pub fn i8x16_popcnt(first: &mut [V128])
     ensures { Mapped (unary 8 (ipopcnt 8)) first.old first.new }
 {
-    let mut i: usize = 0;
-    while i < first.len() {
-        first[i] = packed_vector::i8x16_popcnt(first[i]);
-        i += 1;
+    for a in first.iter_mut() {
+        *a = packed_vector::i8x16_popcnt(*a);
     }
 }

@@ -9,21 +9,9 @@ use Rattle.program_recordings.specs.Lines.{record_said}
 use Rattle.program_recordings.proofs.Lengths.{record_said_length}
 use Rattle.program_recordings.proofs.record_said.Goals as goal
 
-pub returns-in-Bytes : goal.returns-in-Bytes
+pub returns-in-Ok : goal.returns-in-Ok
 unfolding record_said codes
-returns-in-Bytes c = rw c.in-Bytes.is (record { count = refl; is = refl; room = omega arith; part = refl })
+returns-in-Ok c = rw c.in-Ok.is (record { count = refl; is = refl; room = omega arith; part = refl })
 
-pub returns-in-Empty : goal.returns-in-Empty
-unfolding record_said codes
-returns-in-Empty c = filled (record_said_length (recorded_of c.args.recorded)) (search rules)
-    (rw c.in-Empty.is c.put.ensures)
-
-pub returns-in-Short : goal.returns-in-Short
-unfolding record_said codes
-returns-in-Short c = filled (record_said_length (recorded_of c.args.recorded)) (search rules)
-    (rw c.in-Short.is c.put-in-Short.ensures)
-
-pub returns-in-Refused : goal.returns-in-Refused
-unfolding record_said codes
-returns-in-Refused c = filled (record_said_length (recorded_of c.args.recorded)) (search rules)
-    (rw c.in-Refused.is c.put_count.ensures)
+pub returns-in-Err : goal.returns-in-Err
+returns-in-Err c = filled (record_said_length (recorded_of c.args.recorded)) (search rules) (rw c.in-Err.is c.put_error.ensures)

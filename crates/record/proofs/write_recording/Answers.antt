@@ -9,18 +9,19 @@ use Rattle.recording_rules.specs.Definition as definition
 use Rattle.recording_rules.specs.Definition.{recorded}
 use Rattle.recording_rules.proofs.Theorems.{in_room}
 use Rattle.recording_rules.specs.Recorded.{recorded_of}
-use Rattle.recording_rules.specs.declared.Recorded.{Recorded}
+use Rattle.std.specs.Prelude.{Result, Ok}
+use Rattle.recording_rules.specs.declared.RecordError.{RecordError}
 use Rattle.record.proofs.write_recording.Goals as goal
 
-room : (list out after : List ℕ) (r : Recorded) (n : ℕ) → (recorded_of r, after) ≡ recorded list out → r ≡ Recorded.Bytes n → length after ≡ length out
+room : (list out after : List ℕ) (r : Result ℕ RecordError) (n : ℕ) → (recorded_of r, after) ≡ recorded list out → r ≡ Ok n → length after ≡ length out
     → n ≤ length after
 room list out after r n e t k =
     let h = in_room list out n (sym (ap (λ (p : definition.Recorded × List ℕ). p.0) e) ∙ ap recorded_of t) in
     omega arith
 
 pub slice_bounds-out-end : goal.slice_bounds-out-end
-slice_bounds-out-end c = room _ _ _ c.record-recorded.result _ c.record-recorded.ensures c.in-Bytes.is c.record-recorded.auto.out
+slice_bounds-out-end c = room _ _ _ c.record-recorded.result _ c.record-recorded.ensures c.in-Ok.is c.record-recorded.auto.out
 
 pub slice_bounds-write_all-end : goal.slice_bounds-write_all-end
 slice_bounds-write_all-end c =
-    sym (length-take-le _ _ (room _ _ _ c.record-recorded.result _ c.record-recorded.ensures c.in-Bytes.is c.record-recorded.auto.out))
+    sym (length-take-le _ _ (room _ _ _ c.record-recorded.result _ c.record-recorded.ensures c.in-Ok.is c.record-recorded.auto.out))
