@@ -15,4 +15,4 @@ pub returns-in-I64 : goal.returns-in-I64
 returns-in-I64 c =
     let p = c.in-I64.x in
     let e : to_z w64 (of_z w64 p) ≡ p = search rules in
-    rw (c.in-I64.is, ← e) c.of_signed.ensures
+    rw (c.in-I64.is, ← e) c.of_signed-in-I64.ensures
