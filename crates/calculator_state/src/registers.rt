@@ -1,4 +1,5 @@
-// The registers as a run holds them: 32 words, two for each register, low half first, which a step reads and writes where they stand.
+// The registers as a run holds them: 32 words, two for each register, low half first, which a step reads and writes where they stand. Words and not vectors,
+// since C lends them so (`gatulefo_run`, `gatulefo_step`) and nothing is copied.
 ghost use Rattle.std.specs.Prelude.{◌≡◌, map, ◌+◌, ◌%◌, ◌<◌, length, get_or, set};
 ghost use Rattle.simd.specs.Number.{number};
 ghost use Rattle.calculator_state.specs.State.{vectors};
