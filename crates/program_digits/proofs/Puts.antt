@@ -1,5 +1,5 @@
 -- Text put after text: the laws of `Wrote`. Assumes nothing.
-use mathlib.Core.Path.{◌≡◌, sym, ap, ◌∙◌}
+use mathlib.Core.Path.{◌≡◌, refl, sym, ap, ◌∙◌}
 use mathlib.Core.Bool.{Bool, true, false, not}
 use mathlib.Core.List.{List, [], ◌∷◌, ◌++◌, append_assoc, append-nil}
 use Prim.Native.Nat.{ℕ, zero, suc, ◌+◌, ◌-◌, ◌<◌, ◌≤◌, min}
@@ -9,6 +9,8 @@ use native.Mathlib.Omega.{arith}
 use lib.Dec.{T, leb, leb→le, nleb→lt}
 use lib.ListN.{length, take, drop, length-append, length-take, length-drop, take-append-drop, drop_of_length-le}
 use lib.Seq.{paste, take_at, drop-append-add, drop-drop, length-take-le, take_all, take-append_seam}
+use borrow.Rule.Slice.PartMut.{put_mid}
+use Rattle.std.proofs.lemmas.Slice.{take-put_mid, drop-put_mid}
 use Rattle.program_digits.specs.Put.{fitting, written, Wrote, Filled}
 
 -- the first k of two texts, one after the other
@@ -114,7 +116,41 @@ filled {out} {left} {a} {n} {r} h e p =
     let room : r ≤ length left = omega (arith, ap length p.is ∙ length_written out 0 a) in
     record { count = count; is = p.is ∙ rw (all, zero-add); room = room; part = sym (length-take-le r left room) }
 
--- what the loop of `put` leaves
+-- nothing fits behind a list
+pub no_room : (out : List ℕ) (at : ℕ) (text : List ℕ) → length out ≤ at → Wrote out at text out at
+unfolding written
+no_room out at text h =
+    let none : length out - at ≡ 0 = omega arith in
+    record { next = rw none (sym (add-zero at)); is = rw (none, add-zero at) (sym (take-append-drop at out)) }
+
+-- as much of a text as fits, copied over a part of the list
+module _ (out : List ℕ) (at : ℕ) (text part : List ℕ) (n : ℕ) (h : at ≤ length out) (e : n ≡ min (length out - at) (length text)) (is : part ≡ take n text) where
+  m : n ≡ length (fitting out at text)
+  m = e ∙ sym (length-take (length out - at) text)
+
+  first : take (length (fitting out at text)) text ≡ fitting out at text
+  first =
+      ap (λ (l : List ℕ). take (length (fitting out at text)) l) (sym (take-append-drop (length out - at) text))
+      ∙ take-append_seam (fitting out at text) (drop (length out - at) text)
+
+  fits : part ≡ fitting out at text
+  fits = is ∙ (rw m first)
+
+  pub copied : Wrote out at text (put_mid at n out part) (at + n)
+  unfolding written
+  copied =
+      let f = fitting out at text in
+      let front = take-put_mid at n out f (at + length f) refl h in
+      let back = drop-put_mid at n out f (at + length f) (omega (arith, m)) h (sym m) in
+      record {
+        next = ap (λ (k : ℕ). at + k) m;
+        is =
+            ap (put_mid at n out) fits
+            ∙ sym (take-append-drop (at + length f) (put_mid at n out f))
+            ∙ rw (front, back) (append_assoc (take at out) f (drop (at + length f) out));
+      }
+
+-- the same, copied one character after the other
 pub pasted : (out : List ℕ) (at : ℕ) (text : List ℕ) (n : ℕ) → n ≡ min (length out - at) (length text) → Wrote out at text (paste out at text n) (at + n)
 unfolding written
 pasted out at text n e =

@@ -7,27 +7,14 @@ ghost use Rattle.program_digits.specs.Codes.{codes};
 ghost use Rattle.program_digits.specs.Digits.{glyph, digits, places, decimal, two_decimals, hex, hex_bytes};
 ghost use Rattle.program_digits.specs.Put.{Wrote};
 
-// How many of so many bytes have room from a place on.
-fn fitting(room: usize, at: usize, wanted: usize) -> usize
-    ensures { result ≡ min (room - at) wanted }
-{
-    if room < at {
-        return 0;
-    }
-    if room - at < wanted {
-        room - at
-    } else {
-        wanted
-    }
-}
-
 pub fn put(out: &mut [u8], at: usize, text: &[u8]) -> usize
     ensures { Wrote out.old at text.now out.new result }
 {
-    let n = fitting(out.len(), at, text.len());
-    for j in 0..n {
-        out[at + j] = text[j];
+    if at >= out.len() {
+        return at;
     }
+    let n = (out.len() - at).min(text.len());
+    out[at..at + n].copy_from_slice(&text[..n]);
     at + n
 }
 
@@ -46,11 +33,8 @@ fn spell(n: u64, base: u64, k: usize) -> [u8; 20]
     ensures { drop (20 - k) result ≡ digits base k n }
 {
     let mut out = [0u8; 20];
-    let first = 20 - k;
-    let mut i = 20;
     let mut rest = n;
-    while i > first {
-        i -= 1;
+    for i in (20 - k..20).rev() {
         out[i] = digit((rest % base) as u8);
         rest /= base;
     }
@@ -110,8 +94,8 @@ pub fn put_hex_bytes(out: &mut [u8], at: usize, bytes: &[u8]) -> usize
     ensures { Wrote out.old at (hex_bytes bytes.now) out.new result }
 {
     let mut next = at;
-    for i in 0..bytes.len() {
-        next = put_digits(out, next, bytes[i] as u64, 16, 2);
+    for byte in bytes {
+        next = put_digits(out, next, *byte as u64, 16, 2);
     }
     next
 }

@@ -43,7 +43,7 @@ struct Pen {
 
 fn copy(block: &mut [u8], at: usize, text: &[u8], from: usize, count: usize)
     requires count_in_bounds { at + count ≤ length block.old }
-    requires count_in_bounds_2 { from + count ≤ length text.now }
+    requires text_in_bounds { from + count ≤ length text.now }
     ensures { block.new ≡ paste block.old at (drop from text.now) count }
 {
     for i in 0..count {
@@ -68,7 +68,7 @@ fn put_line(block: &mut [u8], pen: Pen, text: &[u8], code: u32) -> usize
     requires in_bounds { 48 ≤ length text.now }
     requires used_in_bounds { pen.used + 44 ≤ length block.old }
     requires code_bound { code < 16777216 }
-    ensures by_index { (N d e : ℕ) → Ready text.now pen.digits pen.tail N → d < 10 → e < 10 → code ≡ d + 65536 * e → Wrote block.old pen.used (line (met N d e)) block.new result }
+    ensures line_put { (N d e : ℕ) → Ready text.now pen.digits pen.tail N → d < 10 → e < 10 → code ≡ d + 65536 * e → Wrote block.old pen.used (line (met N d e)) block.new result }
     ensures upper_bound { result ≤ pen.used + 44 }
 {
     let at = pen.used;
@@ -85,7 +85,7 @@ fn put_line(block: &mut [u8], pen: Pen, text: &[u8], code: u32) -> usize
 fn carry(text: &mut [u8], end: usize) -> bool
     requires { end ≤ length text.old }
     ensures text_unchanged { drop end text.new ≡ drop end text.old }
-    ensures by_index { (pre : List ℕ) (m q : ℕ) → length pre ≡ 9 → q < 10 ^ m → take end text.old ≡ pre ++ digits 10 m q → result ≡ true → (q + 1 < 10 ^ m) × (take end text.new ≡ pre ++ digits 10 m (q + 1)) }
+    ensures counted_on { (pre : List ℕ) (m q : ℕ) → length pre ≡ 9 → q < 10 ^ m → take end text.old ≡ pre ++ digits 10 m q → result ≡ true → (q + 1 < 10 ^ m) × (take end text.new ≡ pre ++ digits 10 m (q + 1)) }
 {
     if end < 10 {
         return false;
@@ -102,7 +102,7 @@ fn carry(text: &mut [u8], end: usize) -> bool
 // Spells a position anew, and answers how many digits it has.
 fn lay(text: &mut [u8], number: u64) -> usize
     requires { 48 ≤ length text.old }
-    ensures by_index { (w : ℕ) → w ≡ 7953766455951237168 + number % 10 → Ready text.new result w number }
+    ensures spelt { (w : ℕ) → w ≡ 7953766455951237168 + number % 10 → Ready text.new result w number }
     ensures upper_bound { result ≤ 20 }
 {
     let end = program_digits::put_number(text, 0, b"position ", number);
@@ -113,7 +113,7 @@ fn lay(text: &mut [u8], number: u64) -> usize
 fn step(text: &mut [u8], pen: Pen, number: u64) -> Pen
     requires ready { Ready text.old pen.digits pen.tail number }
     requires number_bound { number < 2 ^ 63 }
-    ensures ready_2 { Ready text.new result.digits result.tail (number + 1) }
+    ensures next_ready { Ready text.new result.digits result.tail (number + 1) }
     ensures used_value { result.used ≡ pen.used }
 {
     let used = pen.used;
@@ -147,7 +147,7 @@ fn put_position(block: &mut [u8], text: &mut [u8], pen: Pen, code: u32, number: 
     requires number_bound { number < 2 ^ 63 }
     requires used_in_bounds { pen.used + 44 ≤ length block.old }
     requires plain { Plain code }
-    ensures ready_2 { Ready text.new result.digits result.tail (number + 1) }
+    ensures next_ready { Ready text.new result.digits result.tail (number + 1) }
     ensures wrote { Wrote block.old pen.used (lines (told number code)) block.new result.used }
     ensures used_bound { result.used ≤ pen.used + 44 }
 {
@@ -174,8 +174,8 @@ fn put_byte(
     requires used_in_bounds { pen.used + 352 ≤ length block.old }
     requires from_bound { from < 32 }
     requires codes_len { length codes.now ≡ 256 }
-    requires by_index { (i : ℕ) → i < 256 → Plain (get_or codes.now i 0) }
-    ensures ready_2 { Ready text.new result.digits result.tail (number + 8) }
+    requires plain_codes { (i : ℕ) → i < 256 → Plain (get_or codes.now i 0) }
+    ensures next_ready { Ready text.new result.digits result.tail (number + 8) }
     ensures wrote { Wrote block.old pen.used (lines (tolds codes.now from number 8)) block.new result.used }
     ensures used_bound { result.used ≤ pen.used + 352 }
 {
@@ -194,8 +194,8 @@ fn put_many(block: &mut [u8], text: &mut [u8], pen: Pen, codes: &[u32], number: 
     requires number_bound { number + 256 < 2 ^ 63 }
     requires used_in_bounds { pen.used + 11264 ≤ length block.old }
     requires codes_len { length codes.now ≡ 256 }
-    requires by_index { (i : ℕ) → i < 256 → Plain (get_or codes.now i 0) }
-    ensures ready_2 { Ready text.new result.digits result.tail (number + 256) }
+    requires plain_codes { (i : ℕ) → i < 256 → Plain (get_or codes.now i 0) }
+    ensures next_ready { Ready text.new result.digits result.tail (number + 256) }
     ensures wrote { Wrote block.old pen.used (lines (all_told codes.now number 32)) block.new result.used }
     ensures used_bound { result.used ≤ pen.used + 11264 }
 {
@@ -224,7 +224,7 @@ fn code(first: u32, second: u32, tolerance: u32) -> u32
 fn judge(first: &[u32], second: &mut [u32], tolerance: u32)
     requires first_len { length first.now ≡ 256 }
     requires second_len { length second.old ≡ 256 }
-    requires by_index { (i : ℕ) → i < 256 → (get_or first.now i 0 ≤ 32) × (get_or second.old i 0 ≤ 32) }
+    requires at_most_32 { (i : ℕ) → i < 256 → (get_or first.now i 0 ≤ 32) × (get_or second.old i 0 ≤ 32) }
     ensures { (i : ℕ) → i < 256 → get_or second.new i 0 ≡ coded (get_or first.now i 0) (get_or second.old i 0) tolerance }
 {
     for i in 0..256 {
@@ -263,14 +263,14 @@ fn many(
     requires ready { Ready text.old pen.digits pen.tail number }
     requires number_bound { number + 256 < 2 ^ 63 }
     requires used_in_bounds { pen.used + 11264 ≤ length block.old }
-    requires first_len { (length first.old ≡ 256) × (length second.old ≡ 256) }
+    requires distances_len { (length first.old ≡ 256) × (length second.old ≡ 256) }
     requires frame_bound { at + frame + 296 ≤ 8 * length buffer.now }
     requires buffer_bound { 8 * length buffer.now < 2 ^ 64 }
     requires tolerance_bound { tolerance ≤ 8 }
-    ensures ready_2 { Ready text.new result.digits result.tail (number + 256) }
-    ensures by_index { (k : ℕ) → k + at ≡ number → Wrote block.old pen.used (lines (shift k (all_from (bits buffer.now) (marker_bits marker) tolerance frame 256 at))) block.new result.used }
+    ensures next_ready { Ready text.new result.digits result.tail (number + 256) }
+    ensures meetings_put { (k : ℕ) → k + at ≡ number → Wrote block.old pen.used (lines (shift k (all_from (bits buffer.now) (marker_bits marker) tolerance frame 256 at))) block.new result.used }
     ensures used_bound { result.used ≤ pen.used + 11264 }
-    ensures first_len_2 { (length first.new ≡ 256) × (length second.new ≡ 256) }
+    ensures distances_len_kept { (length first.new ≡ 256) × (length second.new ≡ 256) }
 {
     finder_distances::distances(buffer, at, marker, first);
     finder_distances::distances(buffer, at + frame, marker, second);
@@ -371,7 +371,7 @@ fn walk<'a>(
     requires buffer_bound { base + 8 * length buffer.now ≤ 2 ^ 63 }
     requires tolerance_bound { tolerance ≤ 8 }
     requires text_len { length text.old ≡ 48 }
-    requires first_len { (length first.old ≡ 256) × (length second.old ≡ 256) }
+    requires distances_len { (length first.old ≡ 256) × (length second.old ≡ 256) }
     requires used_value { pen.used ≡ 0 }
     ensures from_le_at { (from ≤ result.at) × (result.at ≤ end) × (result.used ≤ length block.old) }
     ensures put_to { Columns marker tolerance table.now → PutTo block.old buffer.now from end marker tolerance frame base block.new result.used result.at }
@@ -550,7 +550,7 @@ pub fn put_lines<'a>(
     count: u64,
 ) -> Put
     ensures used_in_bounds { result.used ≤ length block.old }
-    ensures by_index { (X : List ℕ) → Stands frame X window.now scan → tolerance ≤ 8 → Columns marker tolerance table.now → from + length X ≤ 1152921504606846976 → Lined marker tolerance frame from count X window.now scan block.old block.new result }
+    ensures lined { (X : List ℕ) → Stands frame X window.now scan → tolerance ≤ 8 → Columns marker tolerance table.now → from + length X ≤ 1152921504606846976 → Lined marker tolerance frame from count X window.now scan block.old block.new result }
 {
     let before = scan.before;
     let filled = scan.filled;

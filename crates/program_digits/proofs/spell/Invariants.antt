@@ -9,6 +9,3 @@ use Rattle.program_digits.proofs.spell.Given as goal
 abbrev pub invariant-loop-i : goal.invariant-loop-i
 invariant-loop-i l =
     (20 - l.k ≤ l.i) × (l.i ≤ 20) × (length l.out ≡ 20) × (digits l.base (l.i - (20 - l.k)) l.rest ++ drop l.i l.out ≡ digits l.base l.k l.n)
-
-abbrev pub decreases-loop-i : goal.decreases-loop-i
-decreases-loop-i l = l.i

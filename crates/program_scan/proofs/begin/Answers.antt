@@ -4,6 +4,6 @@ use Rattle.program_scan.proofs.begin.Goals as goal
 
 pub returns : goal.returns
 returns c = record {
-  ready = c.lay-digits.ensures.by_index _ refl;
+  ready = c.lay-digits.ensures.spelt _ refl;
   used_value = refl;
 }

@@ -14,7 +14,7 @@ loop-i-init c = (omega arith, refl, below_none _, λ j h. refl)
 pub code-requires : goal.code-requires
 code-requires c =
     let loop = c.loop-i in
-    let small = c.requires.by_index loop.i (omega arith) in record {
+    let small = c.requires.at_most_32 loop.i (omega arith) in record {
       first_bound = small.0;
       second_bound = rw (loop.invariant.3 loop.i (omega arith)) small.1;
     }

@@ -29,7 +29,7 @@ put_position-pen-requires c =
       ready = inv.4;
       number_bound = omega (arith, pre.number_bound);
       used_in_bounds = omega (arith, pre.used_in_bounds, inv.2, inv.6);
-      plain = pre.by_index loop.i (omega arith);
+      plain = pre.plain_codes loop.i (omega arith);
     }
 
 pub loop-i-preserved : goal.loop-i-preserved
@@ -45,7 +45,7 @@ loop-i-preserved c =
       omega (arith, inv.0, inv.1),
       put.auto.block ∙ inv.2,
       put.auto.text ∙ inv.3,
-      rw (next, ← number) put.ensures.ready_2,
+      rw (next, ← number) put.ensures.next_ready,
       rw next (said_as (tolds_more given.codes.now given.from given.number (loop.i / 32) ∙ rw index) (then inv.5 put.ensures.wrote)),
       omega (arith, inv.6, put.ensures.used_bound),
     )
@@ -56,7 +56,7 @@ returns c =
     let loop = c.loop-i in
     let inv = loop.invariant in
     let all : loop.i / 32 ≡ 8 = omega (arith, inv.0, inv.1) in record {
-      ready_2 = rw all at inv.4;
+      next_ready = rw all at inv.4;
       wrote = rw all at inv.5;
       used_bound = omega (arith, inv.6);
     }

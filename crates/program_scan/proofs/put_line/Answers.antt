@@ -17,7 +17,7 @@ returns c =
     let three = c.put_word in
     let four = c.put_word-2 in
     let five = c.put_word-3 in record {
-      by_index = line_put given.block.now given.text.now two.new.block three.new.block four.new.block five.new.block given.pen.used
+      line_put = line_put given.block.now given.text.now two.new.block three.new.block four.new.block five.new.block given.pen.used
           given.pen.digits given.pen.tail given.code few pre.in_bounds
           pre.used_in_bounds (two.ensures ∙ ap (λ (l : List ℕ). paste l (given.pen.used + given.pen.digits) (drop given.pen.digits given.text.now) 8)
           c.copy.ensures) three.ensures

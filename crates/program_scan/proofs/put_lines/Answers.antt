@@ -14,7 +14,7 @@ returns-then-is_shut c =
     let given = c.args in
     let is = c.put_to.ensures in record {
       used_in_bounds = omega (arith, ap (λ (z : Put). z.used) is);
-      by_index = λ X s small made few. let all = s.all in subst
+      lined = λ X s small made few. let all = s.all in subst
           (λ (z : Put). Lined given.marker given.tolerance given.frame given.from given.count X given.window.now given.scan
           given.block.now given.block.now z) (sym is)
           (short given.marker given.tolerance given.frame given.from given.count X given.window.now given.scan given.block.now s
@@ -36,7 +36,7 @@ returns-then-end-start c =
     let known = c.is_shut.ensures.le_frame c.if-is_shut.false in
     let is = c.put_to-then-end-start.ensures in record {
       used_in_bounds = omega (arith, ap (λ (z : Put). z.used) is);
-      by_index = λ X s small made few. subst
+      lined = λ X s small made few. subst
           (λ (z : Put). Lined given.marker given.tolerance given.frame given.from given.count X given.window.now given.scan
           given.block.now given.block.now z) (sym is)
           (none given.marker given.tolerance given.frame given.from given.count X given.window.now given.scan given.block.now s
@@ -77,7 +77,7 @@ returns-then-at-end c =
     let end = c.limit-end.ensures in
     let is = c.put_to-then-at-end.ensures in record {
       used_in_bounds = rw (ap (λ (z : Put). z.used) is) fill.ensures.from_le_at.2;
-      by_index = λ X s small made few. subst
+      lined = λ X s small made few. subst
           (λ (z : Put). Lined given.marker given.tolerance given.frame given.from given.count X given.window.now given.scan
           given.block.now fill.new.block z) (sym is)
           (to_the_end given.marker given.tolerance given.frame given.from given.count X given.window.now given.scan
@@ -94,7 +94,7 @@ returns c =
     let short_of = less fill.result.at c.limit-end.result fill.ensures.from_le_at.1 c.if-at-end.false in
     let is = c.put_to-2.ensures in record {
       used_in_bounds = rw (ap (λ (z : Put). z.used) is) fill.ensures.from_le_at.2;
-      by_index = λ X s small made few. subst
+      lined = λ X s small made few. subst
           (λ (z : Put). Lined given.marker given.tolerance given.frame given.from given.count X given.window.now given.scan
           given.block.now fill.new.block z) (sym is)
           (part_of_it given.marker given.tolerance given.frame given.from given.count X given.window.now given.scan

@@ -29,7 +29,7 @@ put_byte-pen-requires c =
       used_in_bounds = omega (arith, pre.used_in_bounds, inv.1, inv.5);
       from_bound = omega arith;
       codes_len = pre.codes_len;
-      by_index = pre.by_index;
+      plain_codes = pre.plain_codes;
     }
 
 pub loop-j-preserved : goal.loop-j-preserved
@@ -42,7 +42,7 @@ loop-j-preserved c =
       omega arith,
       put.auto.block ∙ inv.1,
       put.auto.text ∙ inv.2,
-      rw number at put.ensures.ready_2,
+      rw number at put.ensures.next_ready,
       said_as (all_more given.codes.now given.number loop.j) (then inv.4 put.ensures.wrote),
       omega (arith, inv.5, put.ensures.used_bound),
     )
@@ -52,7 +52,7 @@ returns c =
     let loop = c.loop-j in
     let inv = loop.invariant in
     let all : loop.j ≡ 32 = omega arith in record {
-      ready_2 = rw all at inv.3;
+      next_ready = rw all at inv.3;
       wrote = rw all at inv.4;
       used_bound = omega (arith, inv.5);
     }

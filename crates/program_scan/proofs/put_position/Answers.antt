@@ -19,13 +19,13 @@ returns c =
     let given = c.args in
     let step = c.step in
     let pre = c.requires in record {
-      ready_2 = step.ensures.ready_2;
+      next_ready = step.ensures.next_ready;
       wrote = elim c.if-code-lt-FAR.branch [
         | then-code-lt-FAR w ↦
             let few = pre.plain w.if-code-lt-FAR.true in
             let used = step.ensures.used_value ∙ w.used-is in
             rw (w.block-is, used) (said_as (told_met given.number given.code w.if-code-lt-FAR.true)
-            (w.put_line-used.ensures.by_index given.number (given.code % 65536) (given.code / 65536) pre.ready few.0 few.1 (omega arith)))
+            (w.put_line-used.ensures.line_put given.number (given.code % 65536) (given.code / 65536) pre.ready few.0 few.1 (omega arith)))
         | else-code-lt-FAR w ↦
             let used = step.ensures.used_value ∙ w.used-is in
             rw (w.block-is, used) (said_as (told_far given.number given.code w.if-code-lt-FAR.false) (no_more given.block.now given.pen.used))

@@ -13,7 +13,7 @@ returns-then-tail-ne57 c =
     let tail = ready.tail in
     let less : given.number % 10 < 9 = omega arith in
     let same : (given.number + 1) / 10 ≡ given.number / 10 = omega arith in record {
-      ready_2 = record {
+      next_ready = record {
         long = ready.long;
         count = next_digit given.pen.digits given.number ready.count less;
         head = rw same ready.head;
@@ -31,9 +31,9 @@ returns-then-carry c =
     let nine : given.number % 10 ≡ 9 = omega arith in
     let more : given.number / 10 + 1 ≡ (given.number + 1) / 10 = omega arith in
     let call = c.carry in
-    let carried = call.ensures.by_index (codes "position ") (given.pen.digits - 1) (given.number / 10) refl
+    let carried = call.ensures.counted_on (codes "position ") (given.pen.digits - 1) (given.number / 10) refl
     (tenth_below given.pen.digits given.number ready.count) ready.head c.if-carry.true in record {
-      ready_2 = record {
+      next_ready = record {
         long = omega (arith, call.auto.text, ready.long);
         count = next_ten given.pen.digits given.number ready.count nine carried.0;
         head = rw more at carried.1;
@@ -46,6 +46,6 @@ pub returns : goal.returns
 returns c =
     let given = c.args in
     let tail = c.requires.ready.tail in record {
-      ready_2 = c.lay-digits.ensures.by_index 7953766455951237168 (omega arith);
+      next_ready = c.lay-digits.ensures.spelt 7953766455951237168 (omega arith);
       used_value = refl;
     }

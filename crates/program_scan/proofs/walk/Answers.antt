@@ -21,8 +21,8 @@ loop-at-init c =
       omega arith,
       refl,
       pre.text_len,
-      pre.first_len.0,
-      pre.first_len.1,
+      pre.distances_len.0,
+      pre.distances_len.1,
       omega (arith, start),
       λ e. absurd (true≢false (sym e)),
       λ made. (
@@ -71,7 +71,7 @@ many-pen-requires c =
       ready = inv.7 outer.0;
       number_bound = number;
       used_in_bounds = space;
-      first_len = (inv.4, inv.5);
+      distances_len = (inv.4, inv.5);
       frame_bound = inside;
       buffer_bound = small;
       tolerance_bound = pre.tolerance_bound;
@@ -104,12 +104,12 @@ loop-at-preserved-then-dense-room c =
       omega (arith, left),
       many.auto.block ∙ inv.2,
       many.auto.text ∙ inv.3,
-      many.ensures.first_len_2.0,
-      many.ensures.first_len_2.1,
+      many.ensures.distances_len_kept.0,
+      many.ensures.distances_len_kept.1,
       omega (arith, used, room, size),
-      λ e. rw next at many.ensures.ready_2,
+      λ e. rw next at many.ensures.next_ready,
       λ made. let put = more (bits given.buffer.now) (marker_bits given.marker) given.tolerance given.frame given.base given.from loop.at
-          inv.0 (inv.8 made).0 256 (many.ensures.by_index given.base refl) in (put, exact put (omega (arith, used, room, size))),
+          inv.0 (inv.8 made).0 256 (many.ensures.meetings_put given.base refl) in (put, exact put (omega (arith, used, room, size))),
     )
 
 pub returns-in_default : goal.returns-in_default
