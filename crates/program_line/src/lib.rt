@@ -1,7 +1,7 @@
 // One line of the text of a step list, read: the step that it stands for, or why it stands for none.
 #![tactic(auto)]
 
-ghost use Rattle.std.specs.Prelude.{◌+◌, ◌≤◌, ◌<◌, ◌≡◌, true, Ok, length, drop};
+ghost use Rattle.std.specs.Prelude.{◌+◌, ◌≤◌, ◌<◌, ◌≡◌, Ok, length, drop};
 ghost use Rattle.program_words.specs.Cut.{skip};
 ghost use Rattle.program_fields.specs.Values.{field_of};
 ghost use Rattle.program_forms.specs.Takes.{takes_of};
@@ -98,12 +98,6 @@ fn take_form(line: &[u8], r: Reading, t: Takes) -> Result<Reading, Reason>
     take_fields(line, with_lane, Field::Byte, t.bytes, 16)
 }
 
-fn same(a: &[u8], b: &[u8]) -> bool
-    ensures { (result ≡ true → a.now ≡ b.now) × (a.now ≡ b.now → result ≡ true) }
-{
-    a == b
-}
-
 // `packed` alone: mark 1; `packed` and a number: that mark. A blank stands before it, where bytes stand before it too.
 fn take_packed(line: &[u8], r: Reading) -> Result<Reading, Reason>
     requires { r.at ≤ length line.now }
@@ -115,7 +109,7 @@ fn take_packed(line: &[u8], r: Reading) -> Result<Reading, Reason>
         return Ok(r);
     }
     let end = program_words::scan(line, at, Stop::Blank);
-    if !same(&line[at..end], b"packed") {
+    if !program_words::same(&line[at..end], b"packed") {
         return Ok(r);
     }
     let next = program_words::scan(line, end, Stop::Word);
@@ -163,7 +157,7 @@ fn stated(line: &[u8]) -> Result<Option<[u8; 32]>, Reason>
     }
     let end = program_words::scan(line, at, Stop::Blank);
     // `step` and 32 bytes: any step whatever
-    if same(&line[at..end], b"step") {
+    if program_words::same(&line[at..end], b"step") {
         let start = Reading {
             at: end,
             step: [0u8; 32],

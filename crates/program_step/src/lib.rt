@@ -1,7 +1,7 @@
 // One step, written as a line of text.
 #![tactic(auto)]
 
-ghost use Rattle.std.specs.Prelude.{◌+◌, ◌≤◌, ◌≡◌, true};
+ghost use Rattle.std.specs.Prelude.{◌+◌, ◌≤◌, ◌≡◌};
 ghost use Rattle.program_digits.specs.Put.{Wrote};
 ghost use Rattle.program_fields.specs.Values.{field_of};
 ghost use Rattle.program_line.specs.Line.{line as the-line};
@@ -83,18 +83,12 @@ fn put_plain(out: &mut [u8], at: usize, step: &[u8]) -> usize
     put_mark(out, after_bytes, fields::byte(step, 7))
 }
 
-fn same(a: &[u8], b: &[u8]) -> bool
-    ensures { (result ≡ true → a.now ≡ b.now) × (a.now ≡ b.now → result ≡ true) }
-{
-    a == b
-}
-
 // Whether a line stands for a step.
 fn says(line: &[u8], step: &[u8]) -> bool
     ensures { result ≡ Shown.says (the-line line.now) step.now }
 {
     match program_line::read_line(line) {
-        Ok(Some(back)) => same(&back, step),
+        Ok(Some(back)) => program_words::same(&back, step),
         _ => false,
     }
 }

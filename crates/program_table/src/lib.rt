@@ -16,7 +16,8 @@ pub struct Span {
     pub end: usize,
 }
 
-// Which line of a text this one is, the first being 0; the number of lines where none is.
+// Which line of a text this one is, the first being 0; the number of lines where none is. By hand: `split(..).position(..)` was tried, and what its closure says of a
+// character by reference did not close in the proof.
 pub fn find(lines: &[u8], line: &[u8]) -> usize
     ensures { result ≡ place (pieces newline lines.now) line.now }
 {
@@ -35,7 +36,7 @@ pub fn find(lines: &[u8], line: &[u8]) -> usize
     }
 }
 
-// The line of a number; nothing where the text has fewer lines.
+// The line of a number; nothing where the text has fewer lines. By hand: `split(..).nth(n)` was tried, and its proof did not close.
 fn nth(lines: &[u8], n: usize) -> Span
     ensures { Spans lines.now result (get_or (pieces newline lines.now) n []) }
 {

@@ -2,10 +2,10 @@
 #![tactic(auto)]
 
 ghost use Rattle.std.specs.Prelude.{◌+◌, ◌≤◌, ◌≡◌, length, drop};
-ghost use Rattle.program_words.specs.Cut.{before, comment, statement, newline, pieces};
+ghost use Rattle.program_words.specs.Cut.{before, comment, statement, newline, pieces, same};
 ghost use Rattle.program_words.specs.Stops.{stops};
 
-// What stops a scan: a line's end, a blank, or anything but a blank.
+// What stops a scan: a line's end, a blank, or anything but a blank. An enum and no closure, so that a contract names what stops.
 #[derive(Clone, Copy)]
 pub enum Stop {
     Line,
@@ -62,4 +62,11 @@ pub fn lines(text: &[u8]) -> usize
     ensures { result ≡ length (pieces newline text.now) }
 {
     1 + text.iter().filter(|c| **c == b'\n').count()
+}
+
+// Whether two texts are the same.
+pub fn same(a: &[u8], b: &[u8]) -> bool
+    ensures { result ≡ same a.now b.now }
+{
+    a == b
 }

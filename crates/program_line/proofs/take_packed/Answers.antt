@@ -1,12 +1,11 @@
 -- `program_line::take_packed` meets its contract. Assumes nothing.
 use borrow.Author.Rules.{rules}
 use native.Mathlib.Omega.{arith}
-use mathlib.Core.Path.{◌∙◌}
+use mathlib.Core.Path.{◌∙◌, sym}
 use Rattle.program_digits.specs.Codes.{codes}
 use Rattle.program_words.specs.Cut.{blank, solid}
 use Rattle.program_words.specs.Stops.{Scanned}
 use Rattle.program_words.proofs.Scans.{scanned}
-use Rattle.program_words.proofs.Pieces.{sames}
 use Rattle.program_line.proofs.Lines.{not_apart, not_packed, marked_one, marked}
 use Rattle.program_line.proofs.take_packed.Goals as goal
 
@@ -25,7 +24,7 @@ returns-then-not-same c =
     let found_2 : Scanned blank c.args.line.now c.scan-at.result c.scan-end.result =
     scanned blank _ _ _ found.high c.scan-end.ensures.place in
     let r = c.args.r in
-    let same = sames _ _ _ c.same.ensures in
+    let same = sym c.same.ensures in
     record {
       inside = c.requires;
       is = not_packed _ r.at r.step _ c.scan-at.ensures.place found c.if-at-from.false _
@@ -42,7 +41,7 @@ returns-then-next-line c =
     let found_3 : Scanned solid c.args.line.now c.scan-end.result c.scan-next.result =
     scanned solid _ _ _ found_2.high c.scan-next.ensures.place in
     let r = c.args.r in
-    let same = sames _ _ _ c.same.ensures in
+    let same = sym c.same.ensures in
     record {
       inside = found_3.high;
       is = marked_one _ r.at r.step _ c.scan-at.ensures.place found c.if-at-from.false _
@@ -69,7 +68,7 @@ returns c =
     let found_3 : Scanned solid c.args.line.now c.scan-end.result c.scan-next.result =
     scanned solid _ _ _ found_2.high c.scan-next.ensures.place in
     let r = c.args.r in
-    let same = sames _ _ _ c.same.ensures in
+    let same = sym c.same.ensures in
     record {
       inside = c.take_field.ensures.inside;
       is =
