@@ -4,6 +4,7 @@ use mathlib.Core.Path.{◌≡◌, refl, sym, ap, ap₂, ◌∙◌, subst}
 use mathlib.Core.List.{map}
 use Prim.Native.Nat.{ℕ, ◌+◌, ◌-◌, ◌*◌, ◌/◌, ◌%◌, ◌^◌, ◌<◌}
 use native.Mathlib.Nat.{add-zero, one-mul, mul-mod_left, mod-lt, mod-eq_of_lt, sub-add_cancel, le_of_lt, lt_of_le_of_lt, div-mul-le_self}
+use native.Mathlib.Omega.{arith}
 use lib.Pow.{pow_pos, pow-lt, ones_lt, ones_split, high, shl-shr, shr_le, shr_mod, mod-pow-add}
 use lib.Bits.{bit_and, and_mask}
 use lib.ListN.{replicate}
@@ -59,3 +60,12 @@ module _ (w n count a : ℕ) (hw : 0 < w) (ha : a < 2 ^ (w * n)) where
       packed_map (shift_masked (first ha) (kept_lanes w n (count % w) a hw) (count % w)
       (λ p q hp hq. rw (one-mul ((2 ^ w - 1) / 2 ^ (count % w))) (lt_of_le_of_lt (div-mul-le_self (2 ^ w - 1) (2 ^ (count % w))) (ones_lt w))))
       (ishr_u w count) (λ p q hp hq. right_lane w (count % w) (mod-lt count hw) p hp)
+
+-- of a half's lanes
+pub left_half : (v count a : ℕ) → (1 + v) * (64 / (1 + v)) ≡ 64 → a < 2 ^ ((1 + v) * (64 / (1 + v)))
+    → bit_and a (keep (1 + v) (64 / (1 + v)) (count % (1 + v))) * 2 ^ (count % (1 + v)) % 2 ^ 64
+    ≡ joined (1 + v) (map (ishl (1 + v) count) (digits (1 + v) (64 / (1 + v)) a))
+left_half v count a e ha =
+    subst (λ (m : ℕ). bit_and a (keep (1 + v) (64 / (1 + v)) (count % (1 + v))) * 2 ^ (count % (1 + v)) % 2 ^ m
+    ≡ joined (1 + v) (map (ishl (1 + v) count) (digits (1 + v) (64 / (1 + v)) a))) e
+    (left_is (1 + v) (64 / (1 + v)) count a (omega arith) ha)

@@ -13,6 +13,7 @@ use lib.Bits.{bit_and, bit_or, bit_xor, and_mask, mask_lt, or_shr, or_lt, or_add
 use Rattle.standard.specs.Lanes.{digits, joined}
 use Rattle.standard.specs.Integer.{ieq}
 use Rattle.standard.specs.Vector.{no_zero}
+use Rattle.packed_half.specs.Half.{zero_top}
 use Rattle.packed_half.proofs.Packed.{Packed, lanewise, and, or, xor, plus, times, first, second, shift_right, mapped, packed_lt, packed_is, packed_map}
 use Rattle.packed_half.proofs.Sum.{lows, tops, low_mask, top_mask, top_bit}
 
@@ -128,3 +129,9 @@ module _ (v n a b z : ℕ) (ha : a < 2 ^ ((1 + v) * n)) (hb : b < 2 ^ ((1 + v) *
   equal_is =
       packed_is spread_flags (ieq (1 + v))
       (λ p q hp hq. spread v (eqb (bit_xor p q) 0) ∙ ap (λ (t : Bool). cond t (2 ^ (1 + v) - 1) 0) (apart p q (eqb p q) refl))
+
+-- a lane of 1 + v bits is zero_top's lane of that width
+pub flags : (v n a : ℕ) → joined (1 + v) (map (flag v) (digits (1 + v) n a)) ≡ joined (1 + v) (map (zero_top (1 + v)) (digits (1 + v) n a))
+flags v n a =
+    let top : v ≡ 1 + v - 1 = omega arith in
+    ap (λ (t : ℕ). joined (1 + v) (map (λ i. cond (eqb i 0) (2 ^ t) 0) (digits (1 + v) n a))) top

@@ -2,11 +2,12 @@
 // the half apart into its lanes (document 02, order 7).
 #![tactic(auto)]
 
-ghost use Rattle.std.specs.Prelude.{◌≡◌, cond};
+ghost use Rattle.std.specs.Prelude.{◌≡◌, ◌+◌, cond};
 ghost use Rattle.standard.specs.Vector.{any_true};
 ghost use Rattle.packed_half.specs.Half.{half_all_true, half_bitmask};
 
-use packed_compare::{zeros8, zeros16, zeros32};
+use packed_compare::zeros;
+use packed_half::masks::Lanes;
 
 pub fn any_true(a: u64) -> bool
     ensures { cond result 1 0 ≡ any_true a }
@@ -14,22 +15,10 @@ pub fn any_true(a: u64) -> bool
     a != 0
 }
 
-pub fn all_true8(a: u64) -> bool
-    ensures { cond result 1 0 ≡ half_all_true 8 a }
+pub fn all_true<L: Lanes>(a: u64) -> bool
+    ensures { cond result 1 0 ≡ half_all_true (1 + L.LOW_BITS) a }
 {
-    zeros8(a) == 0
-}
-
-pub fn all_true16(a: u64) -> bool
-    ensures { cond result 1 0 ≡ half_all_true 16 a }
-{
-    zeros16(a) == 0
-}
-
-pub fn all_true32(a: u64) -> bool
-    ensures { cond result 1 0 ≡ half_all_true 32 a }
-{
-    zeros32(a) == 0
+    zeros::<L>(a) == 0
 }
 
 pub fn all_true64(a: u64) -> bool

@@ -11,6 +11,7 @@ ghost use Rattle.simd.specs.Number.{number};
 
 use packed_compare::*;
 use packed_count::*;
+use packed_half::masks::{Lanes8, Lanes16, Lanes32};
 use packed_reduce::*;
 use packed_shift::*;
 use packed_sum::arithmetic::*;
@@ -41,19 +42,19 @@ fn both_binary<F: Fn(u64, u64) -> u64>(a: V128, b: V128, f: F) -> V128
 pub fn i8x16_add(a: V128, b: V128) -> V128
     ensures { number result ≡ binary 8 (iadd 8) (number a) (number b) }
 {
-    both_binary(a, b, add8)
+    both_binary(a, b, add::<Lanes8>)
 }
 
 pub fn i16x8_add(a: V128, b: V128) -> V128
     ensures { number result ≡ binary 16 (iadd 16) (number a) (number b) }
 {
-    both_binary(a, b, add16)
+    both_binary(a, b, add::<Lanes16>)
 }
 
 pub fn i32x4_add(a: V128, b: V128) -> V128
     ensures { number result ≡ binary 32 (iadd 32) (number a) (number b) }
 {
-    both_binary(a, b, add32)
+    both_binary(a, b, add::<Lanes32>)
 }
 
 pub fn i64x2_add(a: V128, b: V128) -> V128
@@ -65,19 +66,19 @@ pub fn i64x2_add(a: V128, b: V128) -> V128
 pub fn i8x16_sub(a: V128, b: V128) -> V128
     ensures { number result ≡ binary 8 (isub 8) (number a) (number b) }
 {
-    both_binary(a, b, sub8)
+    both_binary(a, b, sub::<Lanes8>)
 }
 
 pub fn i16x8_sub(a: V128, b: V128) -> V128
     ensures { number result ≡ binary 16 (isub 16) (number a) (number b) }
 {
-    both_binary(a, b, sub16)
+    both_binary(a, b, sub::<Lanes16>)
 }
 
 pub fn i32x4_sub(a: V128, b: V128) -> V128
     ensures { number result ≡ binary 32 (isub 32) (number a) (number b) }
 {
-    both_binary(a, b, sub32)
+    both_binary(a, b, sub::<Lanes32>)
 }
 
 pub fn i64x2_sub(a: V128, b: V128) -> V128
@@ -89,19 +90,19 @@ pub fn i64x2_sub(a: V128, b: V128) -> V128
 pub fn i8x16_eq(a: V128, b: V128) -> V128
     ensures { number result ≡ binary 8 (ieq 8) (number a) (number b) }
 {
-    both_binary(a, b, eq8)
+    both_binary(a, b, eq::<Lanes8>)
 }
 
 pub fn i16x8_eq(a: V128, b: V128) -> V128
     ensures { number result ≡ binary 16 (ieq 16) (number a) (number b) }
 {
-    both_binary(a, b, eq16)
+    both_binary(a, b, eq::<Lanes16>)
 }
 
 pub fn i32x4_eq(a: V128, b: V128) -> V128
     ensures { number result ≡ binary 32 (ieq 32) (number a) (number b) }
 {
-    both_binary(a, b, eq32)
+    both_binary(a, b, eq::<Lanes32>)
 }
 
 pub fn i64x2_eq(a: V128, b: V128) -> V128
@@ -113,31 +114,31 @@ pub fn i64x2_eq(a: V128, b: V128) -> V128
 pub fn i8x16_avgr_u(a: V128, b: V128) -> V128
     ensures { number result ≡ binary 8 (iavgr_u 8) (number a) (number b) }
 {
-    both_binary(a, b, avgr_u8)
+    both_binary(a, b, avgr_u::<Lanes8>)
 }
 
 pub fn i16x8_avgr_u(a: V128, b: V128) -> V128
     ensures { number result ≡ binary 16 (iavgr_u 16) (number a) (number b) }
 {
-    both_binary(a, b, avgr_u16)
+    both_binary(a, b, avgr_u::<Lanes16>)
 }
 
 pub fn i8x16_neg(a: V128) -> V128
     ensures { number result ≡ unary 8 (ineg 8) (number a) }
 {
-    both_unary(a, neg8)
+    both_unary(a, neg::<Lanes8>)
 }
 
 pub fn i16x8_neg(a: V128) -> V128
     ensures { number result ≡ unary 16 (ineg 16) (number a) }
 {
-    both_unary(a, neg16)
+    both_unary(a, neg::<Lanes16>)
 }
 
 pub fn i32x4_neg(a: V128) -> V128
     ensures { number result ≡ unary 32 (ineg 32) (number a) }
 {
-    both_unary(a, neg32)
+    both_unary(a, neg::<Lanes32>)
 }
 
 pub fn i64x2_neg(a: V128) -> V128
@@ -149,19 +150,19 @@ pub fn i64x2_neg(a: V128) -> V128
 pub fn i8x16_shl(a: V128, count: u32) -> V128
     ensures { number result ≡ unary 8 (ishl 8 count) (number a) }
 {
-    both_unary(a, |half| shl8(half, count))
+    both_unary(a, |half| shl::<Lanes8>(half, count))
 }
 
 pub fn i16x8_shl(a: V128, count: u32) -> V128
     ensures { number result ≡ unary 16 (ishl 16 count) (number a) }
 {
-    both_unary(a, |half| shl16(half, count))
+    both_unary(a, |half| shl::<Lanes16>(half, count))
 }
 
 pub fn i32x4_shl(a: V128, count: u32) -> V128
     ensures { number result ≡ unary 32 (ishl 32 count) (number a) }
 {
-    both_unary(a, |half| shl32(half, count))
+    both_unary(a, |half| shl::<Lanes32>(half, count))
 }
 
 pub fn i64x2_shl(a: V128, count: u32) -> V128
@@ -173,19 +174,19 @@ pub fn i64x2_shl(a: V128, count: u32) -> V128
 pub fn i8x16_shr_u(a: V128, count: u32) -> V128
     ensures { number result ≡ unary 8 (ishr_u 8 count) (number a) }
 {
-    both_unary(a, |half| shr_u8(half, count))
+    both_unary(a, |half| shr_u::<Lanes8>(half, count))
 }
 
 pub fn i16x8_shr_u(a: V128, count: u32) -> V128
     ensures { number result ≡ unary 16 (ishr_u 16 count) (number a) }
 {
-    both_unary(a, |half| shr_u16(half, count))
+    both_unary(a, |half| shr_u::<Lanes16>(half, count))
 }
 
 pub fn i32x4_shr_u(a: V128, count: u32) -> V128
     ensures { number result ≡ unary 32 (ishr_u 32 count) (number a) }
 {
-    both_unary(a, |half| shr_u32(half, count))
+    both_unary(a, |half| shr_u::<Lanes32>(half, count))
 }
 
 pub fn i64x2_shr_u(a: V128, count: u32) -> V128
@@ -209,19 +210,19 @@ pub fn v128_any_true(a: V128) -> bool
 pub fn i8x16_all_true(a: V128) -> bool
     ensures { cond result 1 0 ≡ all_true 8 (number a) }
 {
-    all_true8(a.lo) & all_true8(a.hi)
+    all_true::<Lanes8>(a.lo) & all_true::<Lanes8>(a.hi)
 }
 
 pub fn i16x8_all_true(a: V128) -> bool
     ensures { cond result 1 0 ≡ all_true 16 (number a) }
 {
-    all_true16(a.lo) & all_true16(a.hi)
+    all_true::<Lanes16>(a.lo) & all_true::<Lanes16>(a.hi)
 }
 
 pub fn i32x4_all_true(a: V128) -> bool
     ensures { cond result 1 0 ≡ all_true 32 (number a) }
 {
-    all_true32(a.lo) & all_true32(a.hi)
+    all_true::<Lanes32>(a.lo) & all_true::<Lanes32>(a.hi)
 }
 
 pub fn i64x2_all_true(a: V128) -> bool

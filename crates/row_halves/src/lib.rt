@@ -9,7 +9,8 @@ ghost use Rattle.row_halves.specs.Rows.{vectors, halves, half_refusal, after, By
 ghost use Rattle.standard_refusal.specs.Number.{code_of};
 
 use packed_count::popcnt8;
-use packed_sum::arithmetic::add8;
+use packed_half::masks::Lanes8;
+use packed_sum::arithmetic::add;
 use standard_refusal::Refusal;
 
 // "12 when the two rows differ in length or a row of halves is odd".
@@ -43,7 +44,7 @@ pub fn i8x16_add(first: &mut [u64], second: &[u64]) -> Result<(), Refusal>
     ensures value { code_of result ≡ half_refusal (length first.old) (length second.now) }
     ensures first_after { first.new ≡ after (code_of result) (halves (zip (binary 8 (iadd 8)) (vectors first.old) (vectors second.now))) first.old }
 {
-    combine(first, second, add8)
+    combine(first, second, add::<Lanes8>)
 }
 
 pub fn v128_xor(first: &mut [u64], second: &[u64]) -> Result<(), Refusal>

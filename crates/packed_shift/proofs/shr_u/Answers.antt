@@ -1,0 +1,22 @@
+-- `packed_shift::shr_u` meets its contract, by the laws of packed shifts to the right. Assumes nothing.
+use mathlib.Core.Path.{◌∙◌}
+use Rattle.std.proofs.Common.{arith, ◌+◌}
+use Rattle.packed_half.specs.Half.{half_unary}
+use Rattle.packed_half.proofs.Whole.{within, without}
+use Rattle.packed_half.proofs.Shifts.{keep_fits, right_is}
+use Rattle.packed_shift.proofs.shr_u.Goals as goal
+
+pub returns : goal.returns
+unfolding half_unary
+returns g c =
+    let law = g.L.Lanes in
+    let v = g.L.Lanes.LOW_BITS in
+    rw (c.LOW_BITS.ensures, c.ONE.ensures ∙ law.one, c.ALL.ensures ∙ law.all)
+    (right_is (1 + v) _ _ _ (omega arith) (within v law.whole c.ranges.a.fits))
+
+pub overflow_mul-result : goal.overflow_mul-result
+overflow_mul-result g c =
+    let law = g.L.Lanes in
+    let v = g.L.Lanes.LOW_BITS in
+    rw (c.LOW_BITS.ensures, c.ONE.ensures ∙ law.one, c.ALL.ensures ∙ law.all)
+    (record { fits = without v law.whole (keep_fits (1 + v) _ _ (omega arith)) })
