@@ -1,5 +1,5 @@
 -- `memory_access::put` meets its contract. Assumes nothing.
-use Rattle.std.proofs.Common.{rules, arith, ◌∙◌}
+use Rattle.std.proofs.Common.{rules, arith}
 use Rattle.memory_bounds.proofs.Bounds.{reached, put, unput}
 use Rattle.memory_access.proofs.Bytes.{written_part}
 use Rattle.memory_access.proofs.put.Goals as goal
