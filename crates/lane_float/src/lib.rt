@@ -31,7 +31,7 @@ pub fn flt<P: Pattern>(a: P, b: P) -> bool
     ensures { result ≡ Ieee.lt (of_bits P.format (P.bits a)) (of_bits P.format (P.bits b)) }
 {
     if a.ordered(b) {
-        a.number() < b.number()
+        P::less(a.number(), b.number())
     } else {
         false
     }
@@ -41,7 +41,7 @@ pub fn fle<P: Pattern>(a: P, b: P) -> bool
     ensures { result ≡ Ieee.le (of_bits P.format (P.bits a)) (of_bits P.format (P.bits b)) }
 {
     if a.ordered(b) {
-        a.number() <= b.number()
+        P::at_most(a.number(), b.number())
     } else {
         false
     }
@@ -51,12 +51,7 @@ pub fn fle<P: Pattern>(a: P, b: P) -> bool
 pub fn fneg<P: Pattern>(x: P) -> P
     ensures { P.bits result ≡ fneg P.format (P.bits x) }
 {
-    let bits = x.to_u64();
-    P::from_u64(if bits < P::SIGN {
-        bits + P::SIGN
-    } else {
-        bits - P::SIGN
-    })
+    P::from_u64(x.to_u64() ^ P::SIGN)
 }
 
 pub fn fabs<P: Pattern>(x: P) -> P

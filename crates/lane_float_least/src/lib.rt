@@ -21,7 +21,7 @@ pub fn fmin<P: Pattern>(a: P, b: P) -> P
 {
     if a.ordered(b) {
         let first = P::from_u64(a.to_u64() | sign(b));
-        pick(b.number() < a.number(), b, first)
+        pick(P::less(b.number(), a.number()), b, first)
     } else {
         P::nan()
     }
@@ -32,7 +32,7 @@ pub fn fmax<P: Pattern>(a: P, b: P) -> P
 {
     if a.ordered(b) {
         let first = P::from_u64(a.to_u64() & (b.to_u64() | (P::SIGN - 1)));
-        pick(a.number() < b.number(), b, first)
+        pick(P::less(a.number(), b.number()), b, first)
     } else {
         P::nan()
     }

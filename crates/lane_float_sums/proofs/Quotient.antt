@@ -22,30 +22,26 @@ no : (b : Bool) → T (not b) → b ≡ false
 no true h = absurd h
 no false h = refl
 
--- two patterns and zero, and a test whether neither of the two is a NaN
-module _ (f : Format) {P : Type 0} (bits : P → ℕ) (a b zero : P) (none : bits zero ≡ 0) {t : Bool}
-    (e : t ≡ not (nan_bits f (bits a) || nan_bits f (bits b))) where
-  picked : (n : P) {x : P} → (t ≡ true → nan_bits f (bits n) ≡ false) → x ≡ cond t n zero → nan_bits f (bits x) ≡ false
-  picked n k h = ap (λ (p : P). nan_bits f (bits p)) h ∙ decide t refl
+-- two patterns, and a test whether neither of them is a NaN
+module _ (f : Format) (a b : ℕ) {t : Bool} (e : t ≡ not (nan_bits f a || nan_bits f b)) where
+  picked : (n : ℕ) {x : ℕ} → (t ≡ true → nan_bits f n ≡ false) → x ≡ cond t n 0 → nan_bits f x ≡ false
+  picked n k h = ap (nan_bits f) h ∙ decide t refl
     where
-      decide : (u : Bool) → t ≡ u → nan_bits f (bits (cond u n zero)) ≡ false
+      decide : (u : Bool) → t ≡ u → nan_bits f (cond u n 0) ≡ false
       decide true g = k g
-      decide false g = ap (nan_bits f) none ∙ zero_is_number f
+      decide false g = zero_is_number f
 
-  pub first : {x : P} → x ≡ cond t a zero → nan_bits f (bits x) ≡ false
-  first = picked a (λ h. no _ (ordered f (bits a) (bits b) e h).0)
+  pub first : {x : ℕ} → x ≡ cond t a 0 → nan_bits f x ≡ false
+  first = picked a (λ h. no _ (ordered f a b e h).0)
 
-  pub second : {x : P} → x ≡ cond t b zero → nan_bits f (bits x) ≡ false
-  second = picked b (λ h. no _ (ordered f (bits a) (bits b) e h).1)
+  pub second : {x : ℕ} → x ≡ cond t b 0 → nan_bits f x ≡ false
+  second = picked b (λ h. no _ (ordered f a b e h).1)
 
-  pub quotient : {x y : P} → x ≡ cond t a zero → y ≡ cond t b zero
-      → to_bits f (div f (of_bits f (bits x)) (of_bits f (bits y))) ≡ to_bits f (div f (of_bits f (bits a)) (of_bits f (bits b)))
-  quotient p q = ap₂ (λ (m n : P). to_bits f (div f (of_bits f (bits m)) (of_bits f (bits n)))) p q ∙ decide t refl
+  pub quotient : {x y : ℕ} → x ≡ cond t a 0 → y ≡ cond t b 0
+      → to_bits f (div f (of_bits f x) (of_bits f y)) ≡ to_bits f (div f (of_bits f a) (of_bits f b))
+  quotient p q = ap₂ (λ (m n : ℕ). to_bits f (div f (of_bits f m) (of_bits f n))) p q ∙ decide t refl
     where
       decide : (u : Bool) → t ≡ u
-          → to_bits f (div f (of_bits f (bits (cond u a zero))) (of_bits f (bits (cond u b zero))))
-          ≡ to_bits f (div f (of_bits f (bits a)) (of_bits f (bits b)))
+          → to_bits f (div f (of_bits f (cond u a 0)) (of_bits f (cond u b 0))) ≡ to_bits f (div f (of_bits f a) (of_bits f b))
       decide true g = refl
-      decide false g =
-          ap (λ (n : ℕ). to_bits f (div f (of_bits f n) (of_bits f n))) none ∙ zeros f
-          ∙ absorbed f (bits a) (bits b) e (div f) (div_absorbs f) g
+      decide false g = zeros f ∙ absorbed f a b e (div f) (div_absorbs f) g

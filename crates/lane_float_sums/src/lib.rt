@@ -37,12 +37,34 @@ pub fn fmul<P: Pattern>(a: P, b: P) -> P
     }
 }
 
-// Of a NaN and any number zeros are taken, whose quotient is the NaN: a division that stands under an `if` is not made lane beside lane at 64 bits.
-pub fn fdiv<P: Pattern>(a: P, b: P) -> P
+// The step of `fdiv` that differs with the width.
+pub trait Divide: Pattern {
+    fn divide(self, other: Self) -> Self
+        ensures { Self.bits result ≡ fdiv Self.format (Self.bits self) (Self.bits other) };
+}
+
+impl Divide for u32 {
+    fn divide(self, other: u32) -> u32 {
+        if self.ordered(other) {
+            u32::of(self.number() / other.number())
+        } else {
+            u32::nan()
+        }
+    }
+}
+
+// Of a NaN and any number zeros are taken, whose quotient is the NaN: a division that stands under an `if` is not made lane beside lane. At 32 bits, where it
+// is, the zeros would take two instructions more a lane.
+impl Divide for u64 {
+    fn divide(self, other: u64) -> u64 {
+        let numbers = self.ordered(other);
+        let (x, y) = (pick(numbers, self, 0), pick(numbers, other, 0));
+        u64::of(x.number() / y.number())
+    }
+}
+
+pub fn fdiv<P: Divide>(a: P, b: P) -> P
     ensures { P.bits result ≡ fdiv P.format (P.bits a) (P.bits b) }
 {
-    let numbers = a.ordered(b);
-    let zero = P::from_u64(0);
-    let (x, y) = (pick(numbers, a, zero), pick(numbers, b, zero));
-    P::of(x.number() / y.number())
+    a.divide(b)
 }

@@ -1,7 +1,7 @@
 -- Comparisons of float patterns, over both formats: with a NaN every one is false but "not equal".
 -- Assumes nothing.
 use mathlib.Core.Path.{◌≡◌, refl, sym, ◌∙◌}
-use mathlib.Core.Bool.{Bool, true, false, not, cond, ◌||◌}
+use mathlib.Core.Bool.{Bool, true, false, not, ◌||◌}
 use mathlib.Core.Logic.{◌⊎◌, ⊎_elim}
 use Prim.Native.Nat.{ℕ}
 use borrow.Author.Tests.{not-false}
@@ -11,8 +11,6 @@ use lib.Ieee
 use lib.Ieee.{Float, nan, inf, fin, Format, of_bits, nan_bits}
 use lib.Ieee.Bits.{nan_bits_is}
 use lib.Ieee.Compare.{differs_from_itself}
-use Rattle.std.proofs.Common.{Some, None, Less, Equal, Greater}
-use Rattle.std.specs.Ordering.{partial_lt, partial_le, float_partial_cmp, is_some_and, is_lt, is_le}
 use Rattle.standard.proofs.Nan.{holds, differs}
 
 -- A comparison that is false wherever one of its operands is a NaN.
@@ -54,23 +52,3 @@ module _ (f : Format) (a b : ℕ) {t : Bool} (e : t ≡ not (nan_bits f a || nan
 
   pub with_nan : (g : Float → Float → Bool) → Unordered g → t ≡ false → false ≡ g (of_bits f a) (of_bits f b)
   with_nan g u h = ⊎_elim (λ l. rw (reads_nan f a l) (u (of_bits f b)).0) (λ r. rw (reads_nan f b r) (u (of_bits f a)).1) (one_nan h)
-
--- `<` and `<=` by the language's partial order are the floats' own
-pub less : (x y : Float) → partial_lt float_partial_cmp x y ≡ Ieee.lt x y
-less x y = chosen (Ieee.lt x y) (Ieee.eq x y) (Ieee.lt y x)
-  where
-    chosen : (s t u : Bool) → is_some_and is_lt (cond s (Some Less) (cond t (Some Equal) (cond u (Some Greater) None))) ≡ s
-    chosen true t u = refl
-    chosen false true u = refl
-    chosen false false true = refl
-    chosen false false false = refl
-
-pub less_or_equal : (x y : Float) → partial_le float_partial_cmp x y ≡ Ieee.le x y
-unfolding Ieee.le
-less_or_equal x y = chosen (Ieee.lt x y) (Ieee.eq x y) (Ieee.lt y x)
-  where
-    chosen : (s t u : Bool) → is_some_and is_le (cond s (Some Less) (cond t (Some Equal) (cond u (Some Greater) None))) ≡ (s || t)
-    chosen true t u = refl
-    chosen false true u = refl
-    chosen false false true = refl
-    chosen false false false = refl

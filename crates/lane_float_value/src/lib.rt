@@ -8,7 +8,6 @@ ghost use Rattle.std.specs.Prelude.{◌≡◌, ℕ, Bool, ◌+◌, ◌*◌, ◌<
 ghost use Rattle.std.specs.Float.{Format, Float, binary32, binary64, nan};
 ghost use Rattle.std.specs.Float.Ieee;
 ghost use Rattle.std.specs.Float.Ieee.{of_bits, to_bits, nan_bits, top, hid, ones, emax, low};
-ghost use Rattle.std.specs.Ordering.{float_partial_cmp};
 ghost use Rattle.standard.specs.Float.{width};
 ghost use Rattle.standard.specs.Integer.{truth};
 
@@ -26,7 +25,6 @@ pub trait Pattern: Copy {
     // f32 or f64.
     type Number: Copy
         + PartialEq
-        + PartialOrd
         + Add<Output = Self::Number>
         + Sub<Output = Self::Number>
         + Mul<Output = Self::Number>
@@ -86,6 +84,13 @@ pub trait Pattern: Copy {
     fn of(x: Self::Number) -> Self
         ensures { bits result ≡ to_bits format (float x) };
 
+    // By `<` and `<=` of the language's own types: those of a type parameter go by `partial_cmp`, which makes three comparisons.
+    fn less(x: Self::Number, y: Self::Number) -> bool
+        ensures { result ≡ Ieee.lt (float x) (float y) };
+
+    fn at_most(x: Self::Number, y: Self::Number) -> bool
+        ensures { result ≡ Ieee.le (float x) (float y) };
+
     // Whether neither of two patterns is a NaN: else every comparison is false but "not equal" (document 01, "Lane rules").
     fn ordered(self, other: Self) -> bool
         ensures { result ≡ not (nan_bits format (bits self) || nan_bits format (bits other)) };
@@ -123,8 +128,6 @@ pub trait Pattern: Copy {
     ghost div_law: { (x y r : Self.Number) → Self.Number.div_gives x y r → float r ≡ Ieee.div format (float x) (float y) };
 
     ghost eq_law: { (x y : Self.Number) → Self.Number.PartialEq.eq x y ≡ Ieee.eq (float x) (float y) };
-
-    ghost order_law: { (x y : Self.Number) → Self.Number.PartialOrd.partial_cmp x y ≡ float_partial_cmp (float x) (float y) };
 }
 
 impl Pattern for u32 {
@@ -180,6 +183,14 @@ impl Pattern for u32 {
         if x == x { f32::to_bits(x) } else { u32::nan() }
     }
 
+    fn less(x: f32, y: f32) -> bool {
+        x < y
+    }
+
+    fn at_most(x: f32, y: f32) -> bool {
+        x <= y
+    }
+
     fn ordered(self, other: u32) -> bool {
         ordered32(self, other)
     }
@@ -215,8 +226,6 @@ impl Pattern for u32 {
     ghost div_law = { λ x y r e. e };
 
     ghost eq_law = { λ x y. refl };
-
-    ghost order_law = { λ x y. refl };
 }
 
 impl Pattern for u64 {
@@ -272,6 +281,14 @@ impl Pattern for u64 {
         if x == x { f64::to_bits(x) } else { u64::nan() }
     }
 
+    fn less(x: f64, y: f64) -> bool {
+        x < y
+    }
+
+    fn at_most(x: f64, y: f64) -> bool {
+        x <= y
+    }
+
     fn ordered(self, other: u64) -> bool {
         ordered64(self, other)
     }
@@ -307,6 +324,4 @@ impl Pattern for u64 {
     ghost div_law = { λ x y r e. e };
 
     ghost eq_law = { λ x y. refl };
-
-    ghost order_law = { λ x y. refl };
 }

@@ -1,10 +1,8 @@
 -- `lane_float_least::fmin` meets its contract. Assumes nothing.
-use mathlib.Core.Path.{ap, ap₂, sym, subst, ◌∙◌}
-use Rattle.std.specs.Ordering.{is_some_and, is_lt}
+use mathlib.Core.Path.{ap₂, sym, subst, ◌∙◌}
 use Prim.Native.Nat.{ℕ, ◌*◌, ◌<◌}
 use lib.Bits.{bit_or}
 use lib.Ieee.{top, lt}
-use Rattle.lane_float_value.proofs.FloatOrder.{less}
 use Rattle.lane_float_least.proofs.Extremes.{least, one_of, sign_fits}
 use Rattle.lane_float_least.proofs.fmin.Goals as goal
 
@@ -17,7 +15,7 @@ pub returns-then-ordered : goal.returns-then-ordered
 returns-then-ordered g c =
     let p = g.P.Pattern in
     one_of p.bits c.args.b c.from_u64-first.result c.pick.ensures
-    (c.lt.ensures ∙ ap (is_some_and is_lt) (g.met.P.Pattern.order_law _ _) ∙ less _ _ ∙ ap₂ lt c.number.ensures c.number-then-ordered.ensures)
+    (c.less.ensures ∙ ap₂ lt c.number.ensures c.number-then-ordered.ensures)
     (c.from_u64-first.ensures ∙ ap₂ bit_or c.to_u64.ensures.same c.sign.ensures.sign)
     ∙ least p.format _ _ c.ordered.ensures (subst (λ (n : ℕ). n < 2 * top p.format) c.to_u64.ensures.same c.to_u64.ensures.fits) c.sign.ensures.fits
     c.if-ordered.true
