@@ -2,7 +2,7 @@
 // put together with shifts, remainders, sums and comparisons.
 #![tactic(auto)]
 
-ghost use Rattle.std.specs.Prelude.{◌≡◌, ◌++◌, ◌/◌, ◌%◌, ◌^◌, nat_abs, take, replicate};
+ghost use Rattle.std.specs.Prelude.{◌≡◌, ℕ, ◌++◌, ◌/◌, ◌%◌, ◌^◌, map, nat_abs, take, replicate};
 ghost use Rattle.standard.specs.Integer.{signed};
 ghost use Rattle.lane_float_pattern.specs.Integral.{lift};
 
@@ -46,4 +46,17 @@ pub fn lanes(s: [u32; 24]) -> [u32; 4]
     ensures { result ≡ take 4 s }
 {
     [s[0], s[1], s[2], s[3]]
+}
+
+// A function of a lane at each of four, side by side.
+pub fn side_by_side<F: Fn(u32) -> u32>(f: F, a: [u32; 4]) -> [u32; 4]
+    requires { F.IsAlwaysCallable f }
+    ensures { (g : ℕ → ℕ) → ((x r : ℕ) → F.post f x r → r ≡ g x) → result ≡ map g a }
+{
+    let x = places(a);
+    let mut r = [0; 24];
+    for i in 0..24 {
+        r[i] = f(x[i]);
+    }
+    lanes(r)
 }

@@ -5,8 +5,8 @@ ghost use Rattle.std.specs.Prelude.{◌≡◌, ◌%◌, ◌^◌, map};
 ghost use Rattle.std.specs.Float.{binary32, binary64};
 ghost use Rattle.standard.specs.Convert.{trunc_sat_u, trunc_sat_s};
 
-use lane_float_parts::*;
-use lane_float_value::*;
+use lane_float_parts::side_by_side;
+use lane_float_value::pick;
 
 // "If z is a NaN, then return 0."
 const OF_NAN: u32 = 0;
@@ -39,23 +39,13 @@ fn trunc_sat_s32(bits: u32) -> u32
 pub fn trunc_sat_u32x4(a: [u32; 4]) -> [u32; 4]
     ensures { result ≡ map (trunc_sat_u binary32) a }
 {
-    let x = places(a);
-    let mut r = [0; 24];
-    for i in 0..24 {
-        r[i] = trunc_sat_u32(x[i]);
-    }
-    lanes(r)
+    side_by_side(trunc_sat_u32, a)
 }
 
 pub fn trunc_sat_s32x4(a: [u32; 4]) -> [u32; 4]
     ensures { result ≡ map (trunc_sat_s binary32) a }
 {
-    let x = places(a);
-    let mut r = [0; 24];
-    for i in 0..24 {
-        r[i] = trunc_sat_s32(x[i]);
-    }
-    lanes(r)
+    side_by_side(trunc_sat_s32, a)
 }
 
 // The whole part of the magnitude.
