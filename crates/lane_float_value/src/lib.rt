@@ -11,15 +11,9 @@ ghost use Rattle.std.specs.Float.Ieee.{of_bits, to_bits, nan_bits, top, hid, one
 ghost use Rattle.standard.specs.Float.{width};
 ghost use Rattle.standard.specs.Integer.{truth};
 
+pub use lane_integer::choose::pick;
 use nan::{is_number32, is_number64, ordered32, ordered64};
 use std::ops::{Add, Div, Mul, Sub};
-
-// One of two values, by a test. As a call it leaves no jump where a loop over lanes is compiled.
-pub fn pick<T: Copy>(t: bool, a: T, b: T) -> T
-    ensures { result ≡ (if t then a else b) }
-{
-    if t { a } else { b }
-}
 
 pub trait Pattern: Copy {
     // f32 or f64.
