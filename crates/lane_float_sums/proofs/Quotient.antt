@@ -2,8 +2,8 @@
 use mathlib.Core.Path.{◌≡◌, refl, ap, ap₂, ◌∙◌}
 use mathlib.Core.Bool.{Bool, true, false, not, cond, ◌||◌}
 use Prim.Native.Nat.{ℕ}
-use lib.Dec.{T}
 use lib.Ieee.{Format, binary32, binary64, nan, div, of_bits, to_bits, nan_bits}
+use lib.Ieee.Bits.{is_false}
 use Rattle.lane_float_value.proofs.FloatOrder.{ordered}
 use Rattle.lane_float_sums.proofs.Absorb.{absorbed, div_absorbs}
 
@@ -18,10 +18,6 @@ unfolding div of_bits
 zeros binary32 = refl
 zeros binary64 = refl
 
-no : (b : Bool) → T (not b) → b ≡ false
-no true h = absurd h
-no false h = refl
-
 -- two patterns, and a test whether neither of them is a NaN
 module _ (f : Format) (a b : ℕ) {t : Bool} (e : t ≡ not (nan_bits f a || nan_bits f b)) where
   picked : (n : ℕ) {x : ℕ} → (t ≡ true → nan_bits f n ≡ false) → x ≡ cond t n 0 → nan_bits f x ≡ false
@@ -32,10 +28,10 @@ module _ (f : Format) (a b : ℕ) {t : Bool} (e : t ≡ not (nan_bits f a || nan
       decide false g = zero_is_number f
 
   pub first : {x : ℕ} → x ≡ cond t a 0 → nan_bits f x ≡ false
-  first = picked a (λ h. no _ (ordered f a b e h).0)
+  first = picked a (λ h. is_false _ (ordered f a b e h).0)
 
   pub second : {x : ℕ} → x ≡ cond t b 0 → nan_bits f x ≡ false
-  second = picked b (λ h. no _ (ordered f a b e h).1)
+  second = picked b (λ h. is_false _ (ordered f a b e h).1)
 
   pub quotient : {x y : ℕ} → x ≡ cond t a 0 → y ≡ cond t b 0
       → to_bits f (div f (of_bits f x) (of_bits f y)) ≡ to_bits f (div f (of_bits f a) (of_bits f b))

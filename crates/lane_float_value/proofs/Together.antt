@@ -11,7 +11,7 @@ use lib.Pow.{pow_pos, split}
 use lib.Dec.{T, ltb}
 use lib.Ieee
 use lib.Ieee.{Format, binary32, binary64, top, ones, hid, of_bits, nan_bits}
-use lib.Ieee.Bits.{nan_bits_above}
+use lib.Ieee.Bits.{is_false, nan_bits_above}
 use Rattle.lane_float_theorems.proofs.OnePattern.{one_pattern}
 use Rattle.lane_float_value.proofs.FloatOrder.{with_nan, eq_unordered}
 
@@ -80,14 +80,10 @@ module _ (f : Format) (a b : ℕ) (ha : a < 2 * top f) (hb : b < 2 * top f) wher
           ∙ ap (ltb (ones f * hid f)) (together f a b ∙ ap (bit_or (a % top f)) (sym (same_size r)) ∙ or_self (a % top f))
           ∙ sym (nan_bits_above f a) ∙ p)
 
-no : (b : Bool) → T (not b) → b ≡ false
-no true h = absurd h
-no false h = refl
-
 -- a test whether two patterns together are a number
 module _ (f : Format) (a b : ℕ) {t : Bool} (e : t ≡ not (nan_bits f (bit_or a b))) where
   pub numbers : t ≡ true → (nan_bits f a ≡ false) × (nan_bits f b ≡ false)
-  numbers h = let p = apart f a b (not-true _ (sym e ∙ h)) in (no _ p.0, no _ p.1)
+  numbers h = let p = apart f a b (not-true _ (sym e ∙ h)) in (is_false _ p.0, is_false _ p.1)
 
   pub differ : a < 2 * top f → b < 2 * top f → t ≡ false → Ieee.eq (of_bits f a) (of_bits f b) ≡ false
   differ ha hb h = sym (unequal f a b ha hb (not-false _ (sym e ∙ h)))
