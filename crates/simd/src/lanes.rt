@@ -117,15 +117,11 @@ impl Lanes for u8 {
     ghost listed = { λ p. p };
 
     fn places(v: V128) -> [u8; 64] {
-        let mut p = [0; 64];
-        p[..16].copy_from_slice(&v.lanes8());
-        p
+        v.places8()
     }
 
     fn of_places(p: [u8; 64]) -> V128 {
-        let mut a = [0; 16];
-        a.copy_from_slice(&p[..16]);
-        V128::join8(a)
+        V128::from_places8(p)
     }
 
     fn get(p: &[u8; 64], i: usize) -> u8 {
@@ -171,15 +167,11 @@ impl Lanes for u16 {
     ghost listed = { λ p. p };
 
     fn places(v: V128) -> [u16; 64] {
-        let mut p = [0; 64];
-        p[..8].copy_from_slice(&v.lanes16());
-        p
+        v.places16()
     }
 
     fn of_places(p: [u16; 64]) -> V128 {
-        let mut a = [0; 8];
-        a.copy_from_slice(&p[..8]);
-        V128::join16(a)
+        V128::from_places16(p)
     }
 
     fn get(p: &[u16; 64], i: usize) -> u16 {
@@ -225,15 +217,11 @@ impl Lanes for u32 {
     ghost listed = { λ p. p };
 
     fn places(v: V128) -> [u32; 64] {
-        let mut p = [0; 64];
-        p[..4].copy_from_slice(&v.lanes32());
-        p
+        v.places32()
     }
 
     fn of_places(p: [u32; 64]) -> V128 {
-        let mut a = [0; 4];
-        a.copy_from_slice(&p[..4]);
-        V128::join32(a)
+        V128::from_places32(p)
     }
 
     fn get(p: &[u32; 64], i: usize) -> u32 {

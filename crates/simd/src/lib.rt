@@ -17,7 +17,7 @@ pub mod shift;
 pub mod splat;
 pub mod widen;
 
-ghost use Rattle.std.specs.Prelude.{◌≡◌, ◌++◌, ◌∷◌, []};
+ghost use Rattle.std.specs.Prelude.{◌≡◌, ◌++◌, ◌∷◌, [], take, replicate};
 ghost use Rattle.standard.specs.Lanes.{digits, joined, lanes};
 ghost use Rattle.simd.specs.Number.{number};
 
@@ -182,5 +182,70 @@ impl V128 {
             lo: half32(a[0], a[1]),
             hi: half32(a[2], a[3]),
         }
+    }
+
+    // The lanes with idle places after them, and a vector of the lanes before them, by loops that copy: with `copy_from_slice` the loops over lanes are not
+    // unrolled (docs/DECISIONS.md, "Idle places"), and `i8x16_add` takes 109 instructions in place of 4.
+    fn places8(self) -> [u8; 64]
+        ensures { result ≡ lanes 8 (number self) ++ replicate 48 0 }
+    {
+        let s = self.lanes8();
+        let mut r = [0; 64];
+        for i in 0..16 {
+            r[i] = s[i];
+        }
+        r
+    }
+
+    fn from_places8(s: [u8; 64]) -> V128
+        ensures { number result ≡ joined 8 (take 16 s) }
+    {
+        let mut r = [0; 16];
+        for i in 0..16 {
+            r[i] = s[i];
+        }
+        V128::join8(r)
+    }
+
+    fn places16(self) -> [u16; 64]
+        ensures { result ≡ lanes 16 (number self) ++ replicate 56 0 }
+    {
+        let s = self.lanes16();
+        let mut r = [0; 64];
+        for i in 0..8 {
+            r[i] = s[i];
+        }
+        r
+    }
+
+    fn from_places16(s: [u16; 64]) -> V128
+        ensures { number result ≡ joined 16 (take 8 s) }
+    {
+        let mut r = [0; 8];
+        for i in 0..8 {
+            r[i] = s[i];
+        }
+        V128::join16(r)
+    }
+
+    fn places32(self) -> [u32; 64]
+        ensures { result ≡ lanes 32 (number self) ++ replicate 60 0 }
+    {
+        let s = self.lanes32();
+        let mut r = [0; 64];
+        for i in 0..4 {
+            r[i] = s[i];
+        }
+        r
+    }
+
+    fn from_places32(s: [u32; 64]) -> V128
+        ensures { number result ≡ joined 32 (take 4 s) }
+    {
+        let mut r = [0; 4];
+        for i in 0..4 {
+            r[i] = s[i];
+        }
+        V128::join32(r)
     }
 }
