@@ -2,15 +2,20 @@
 #![tactic(auto)]
 
 ghost use Rattle.std.specs.Prelude.{◌≡◌};
-ghost use Rattle.standard.specs.Integer.{signed, iadd_sat_u, iadd_sat_s, isub_sat_u, isub_sat_s, iavgr_u, iq15mulrsat_s};
+ghost use Rattle.standard.specs.Integer.{signed, sat_s, iadd_sat_u, iadd_sat_s, isub_sat_u, isub_sat_s, iavgr_u, iq15mulrsat_s};
 
 use lane_integer::Lane;
 
-/// A lane whose sums, differences and products have room in 32 bits.
+/// A lane whose sums, differences and products have room in 32 bits. A signed sum is held to the range there: the compiler knows that form as one instruction, and the
+/// language's `saturating_add` takes three times as many (12 in place of 4 for `i16x8_add_sat_s`).
 pub trait Narrow: Lane {
     /// The signed reading of a lane, with room for a sum.
     fn wide(self) -> i32
         ensures { result ≡ signed Self.width (Self.number self) };
+
+    /// A whole number held to the signed range.
+    fn held(z: i32) -> Self
+        ensures { Self.number result ≡ sat_s Self.width z };
 
     fn add_sat_s(self, other: Self) -> Self
         ensures { Self.number result ≡ iadd_sat_s Self.width (Self.number self) (Self.number other) };
@@ -33,8 +38,12 @@ impl Narrow for u8 {
         i32::from(u8::signed(self))
     }
 
+    fn held(z: i32) -> u8 {
+        u8::of_signed(z.clamp(-128, 127) as i8)
+    }
+
     fn add_sat_s(self, other: u8) -> u8 {
-        u8::of_signed(self.signed().saturating_add(other.signed()))
+        u8::held(self.wide() + other.wide())
     }
 
     fn add_sat_u(self, other: u8) -> u8 {
@@ -42,7 +51,7 @@ impl Narrow for u8 {
     }
 
     fn sub_sat_s(self, other: u8) -> u8 {
-        u8::of_signed(self.signed().saturating_sub(other.signed()))
+        u8::held(self.wide() - other.wide())
     }
 
     fn sub_sat_u(self, other: u8) -> u8 {
@@ -59,8 +68,12 @@ impl Narrow for u16 {
         i32::from(u16::signed(self))
     }
 
+    fn held(z: i32) -> u16 {
+        u16::of_signed(z.clamp(-32768, 32767) as i16)
+    }
+
     fn add_sat_s(self, other: u16) -> u16 {
-        u16::of_signed(self.signed().saturating_add(other.signed()))
+        u16::held(self.wide() + other.wide())
     }
 
     fn add_sat_u(self, other: u16) -> u16 {
@@ -68,7 +81,7 @@ impl Narrow for u16 {
     }
 
     fn sub_sat_s(self, other: u16) -> u16 {
-        u16::of_signed(self.signed().saturating_sub(other.signed()))
+        u16::held(self.wide() - other.wide())
     }
 
     fn sub_sat_u(self, other: u16) -> u16 {
