@@ -169,8 +169,11 @@ impl<'a> Search<'a> {
         if found.is_some() | (words == positions) {
             return found;
         }
-        let table = finder_columns::columns(self.marker, self.tolerance);
-        self.by_columns(words / 8, positions - words, &table)
+        self.by_columns(
+            words / 8,
+            positions - words,
+            &finder_columns::columns(self.marker, self.tolerance),
+        )
     }
 }
 

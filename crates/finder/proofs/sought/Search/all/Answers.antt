@@ -52,7 +52,7 @@ returns c =
     let on = both_false _ _ c.if-is_some-words.false in
     let left = ap (λ (n : ℕ). n - words) (positions_are (8 * length s.buffer.now) s.frame room) in
     let place = at_a_byte _ words c.min-words.ensures (eqb-false _ _ on.1) in
-    c.by_columns.ensures c.columns-table.ensures
+    c.by_columns.ensures c.columns.ensures
     ∙ sym (none_early _ _ _ _ words (suc (8 * length s.buffer.now - (s.frame + 32))) 0
     (no_more _ s.frame words room c.min-words.ensures) c.by_words-found.result (sym c.is_some.ensures ∙ on.0) c.by_words-found.ensures
     left place refl)
