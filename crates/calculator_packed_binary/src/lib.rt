@@ -1,4 +1,5 @@
-// The packed forms of two vectors: each half of a vector as one number. A step with no packed form is done lane by lane.
+// The packed forms of two vectors: each half of a vector as one number. A step with no packed form is done lane by lane. By the
+// standard's number, as `calculator_operation` says.
 #![tactic(auto)]
 
 ghost use Rattle.std.specs.Prelude.{◌≡◌};

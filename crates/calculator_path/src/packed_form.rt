@@ -1,4 +1,5 @@
 // The packed forms of one vector, as `calculator_packed_binary` has those of two. A step with no packed form is done lane by lane.
+// By the standard's number, as `calculator_operation` says.
 ghost use Rattle.std.specs.Prelude.{◌≡◌};
 ghost use Rattle.standard.specs.Instruction.{instruction};
 ghost use Rattle.simd.specs.Number.{number};

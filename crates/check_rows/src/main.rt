@@ -45,6 +45,7 @@ fn at_most_80(n: u8) -> usize
     if n < 80 { n as usize } else { 80 }
 }
 
+// By the record's byte.
 fn over_rows(op: u8, first: &mut [u64], second: &[u64]) -> Result<(), Refusal> {
     match op {
         ADD => row_halves::i8x16_add(first, second),

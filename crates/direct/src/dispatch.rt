@@ -1,4 +1,5 @@
-// The answer to a request: the family of its function, by the function's number (its line in docs/functions.tsv, the first after the heading being 0).
+// The answer to a request: the family of its function, by the function's number (its line in docs/functions.tsv, the first after the heading being 0). A number and
+// no enum: the request has it so, and compare/ counts the Rust's functions so.
 ghost use Rattle.std.specs.Prelude.{◌≤◌};
 
 use crate::answer::Answer;

@@ -53,6 +53,7 @@ fn wide(x: u32) -> u64
     x as u64
 }
 
+// One for each type that the definition's views name (`i32_answer`, `u32_answer`, `i64_answer`): each hands C other bits.
 #[tactic(auto, unfolding(crate::specs::Handed::pair))]
 pub fn of_i32(answer: Result<i32, Refusal>) -> BitsOrRefusal
     ensures { (result.bits, result.refused) ≡ pair (i32_answer answer) }

@@ -69,7 +69,7 @@ fn splat64_from(memory: &[u8], ea: Effective) -> Result<V128, AccessError>
     Ok(u64::splat(fetch(memory, ea)?))
 }
 
-// "read 8 bytes and widen"
+// "read 8 bytes and widen". Six of one line each: a function as a parameter would need a clause over all functions, and six callers that name theirs.
 #[tactic(auto, using(memory_access::proofs::Shapes::widen_maps))]
 fn widen8x8_s_from(memory: &[u8], ea: Effective) -> Result<V128, AccessError>
     ensures { load_answer result ≡ load_widen extend_s 8 memory.now (effective ea) }

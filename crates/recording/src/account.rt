@@ -19,6 +19,7 @@ pub struct Left {
     pub scalar: Scalar,
     pub lo: u64,
     pub hi: u64,
+    // Numbers, as they stand in a record.
     pub refused: u8,
     pub kind: u8,
     pub bits: u64,

@@ -25,6 +25,7 @@ fn combine<F: Fn(V128, V128) -> V128>(
     if first.len() != second.len() {
         return Err(Refusal::Rows);
     }
+    // By index in the second row: of `iter_mut` behind another adapter than `enumerate` the library says nothing of the elements.
     for (i, a) in first.iter_mut().enumerate() {
         *a = f(*a, second[i]);
     }

@@ -1,4 +1,5 @@
 -- What is asked of a function that is done at every lane: it gives g, where `post` says what a call may return and `number` which number a lane is.
+-- No reader has to believe it: private clauses alone cite it.
 use Rattle.std.specs.Prelude.{ℕ, ◌≡◌}
 
 abbrev pub Gives : {A : Type 0} {B : Type 0} → (A → ℕ) → (B → ℕ) → (A → B → Type 0) → (ℕ → ℕ) → Type 0

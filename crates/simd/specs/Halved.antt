@@ -1,4 +1,5 @@
 -- A width of lanes of which a half of a vector has whole ones, and a vector twice as many.
+-- No reader has to believe it: private clauses alone cite it.
 use Rattle.std.specs.Prelude.{ℕ, ◌≡◌, ◌+◌, ◌*◌, ◌/◌}
 
 abbrev pub IsHalved : ℕ → Type 0

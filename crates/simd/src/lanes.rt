@@ -53,7 +53,8 @@ pub trait Lanes: Lane {
     ghost counted: { COUNT ≡ 128 / Self.width + idle };
 }
 
-// What f makes of every place of a vector, the idle ones too.
+// What f makes of every place of a vector, the idle ones too. By index through `get` and `set`: the places are a type of the lane's own, of which only these two
+// are known.
 pub(crate) fn at_each<L: Lanes, M: Lanes, F: Fn(L) -> M>(v: V128, f: F) -> M::Places
     requires callable { F.IsAlwaysCallable f }
     requires alike { M.COUNT ≡ L.COUNT }

@@ -184,7 +184,7 @@ impl V128 {
         }
     }
 
-    // The lanes with idle places after them, and a vector of the lanes before them, by loops that copy: with `copy_from_slice` the loops over lanes are not
+    // The lanes with idle places after them, and a vector of the lanes before them. One for each width, since the language computes no const argument; by loops that copy: with `copy_from_slice` the loops over lanes are not
     // unrolled (docs/DECISIONS.md, "Idle places"), and `i8x16_add` takes 109 instructions in place of 4.
     fn places8(self) -> [u8; 64]
         ensures { result ≡ lanes 8 (number self) ++ replicate 48 0 }
