@@ -1,6 +1,6 @@
 -- `program_disassemble::disassemble` meets its contract, by what is judged of the length. Assumes nothing.
 use borrow.Author.Rules.{rules}
-use mathlib.Core.Path.{sym, ◌∙◌}
+use mathlib.Core.Path.{refl, sym, ◌∙◌}
 use Rattle.standard_refusal.proofs.Numbers.{not_0, unrefused}
 use Rattle.program_digits.specs.Codes.{codes}
 use Rattle.program_digits.proofs.Puts.{filled}
@@ -13,7 +13,7 @@ unfolding codes
 returns-in-Err c =
     let n = c.from-number.result in
     rw (told_refused _ n (c.from-number.ensures ∙ c.in-Err.ensures) (rw c.from-number.ensures (not_0 c.in-Err.refusal)))
-    (record { output = none _; said = filled (said_length n) (search rules) c.put_count.ensures })
+    (record { output = none _; said = filled (said_length n) (search rules) c.put_count.ensures; status = refl })
 
 pub returns : goal.returns
 returns c =
@@ -23,4 +23,5 @@ returns c =
       output = filled (text_length c.args.list.now (sym c.judge.ensures ∙ passed))
           (search rules) c.put_steps.ensures;
       said = none _;
+      status = refl;
     })
