@@ -7,7 +7,7 @@ ghost use Rattle.standard.specs.Refusal.{at_lane};
 ghost use Rattle.std.specs.Prelude.{◌≡◌};
 
 use link_answers::answer::{VectorOrRefusal, of_vector, vector_or_zero};
-use simd::V128;
+use simd::{Lanes, V128};
 
 #[unsafe(no_mangle)]
 pub extern "C" fn gatulefo_i64x2_replace_lane(v: V128, lane: u8, bits: u64) -> VectorOrRefusal

@@ -3,7 +3,7 @@ ghost use Rattle.simd.specs.Number.{number};
 ghost use Rattle.standard.specs.Lanes.{splat};
 ghost use Rattle.std.specs.Prelude.{◌≡◌};
 
-use simd::V128;
+use simd::{Lanes, V128};
 
 #[unsafe(no_mangle)]
 pub extern "C" fn gatulefo_i64x2_splat(bits: u64) -> V128
