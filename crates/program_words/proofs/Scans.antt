@@ -6,7 +6,7 @@ use Prim.Native.Nat.{ℕ, suc, ◌+◌, ◌-◌, ◌<◌, ◌≤◌}
 use native.Mathlib.Nat.{add-zero}
 use native.Mathlib.Numerals.{add-one}
 use native.Mathlib.Omega.{arith}
-use lib.ListN.{length, take, drop, drop_of_length-le, length-drop}
+use lib.ListN.{length, get_or, take, drop, drop_of_length-le, length-drop}
 use lib.Seq.{drop-cons, drop-drop}
 use Rattle.program_words.specs.Cut.{before, onward, comment, statement}
 use Rattle.program_words.specs.Stops.{Scanned}
@@ -59,6 +59,15 @@ module _ (stop : ℕ → Bool) where
     pub at_end : length text ≤ i → i ≡ i + length (before stop (drop i text))
     unfolding before
     at_end h = rw (drop_of_length-le text h) (sym (add-zero i))
+
+    pub at_stop : i < length text → stop (get_or text i 0) ≡ true → i ≡ i + length (before stop (drop i text))
+    unfolding before
+    at_stop h e = rw (drop-cons text i 0 h, e) (sym (add-zero i))
+
+    pub at_other : i < length text → stop (get_or text i 0) ≡ false
+        → i + length (before stop (drop i text)) ≡ i + 1 + length (before stop (drop (i + 1) text))
+    unfolding before
+    at_other h e = rw (drop-cons text i 0 h, e, add-one i) (omega arith)
 
 -- the same of a statement, which ends where a comment begins
 pub statement_short : (cs : List ℕ) → length (statement cs) ≤ length cs

@@ -23,19 +23,23 @@ fn stops(what: Stop, c: u8) -> bool
     }
 }
 
-// The first place from a place on at which a character stops; the text's end where none does.
+// The first place from a place on at which a character stops; the text's end where none does. A loop: by `get` and `position` a search in the table of names took
+// a fifth more instructions.
 pub fn scan(text: &[u8], from: usize, what: Stop) -> usize
     ensures place { result ≡ from + length (before (stops what) (drop from text.now)) }
     ensures low { from ≤ result }
     ensures high { from ≤ length text.now → result ≤ length text.now }
 {
-    match text.get(from..) {
-        Some(rest) => {
-            let passed = rest.iter().position(|c| stops(what, *c));
-            from + passed.unwrap_or(rest.len())
-        }
-        None => from,
+    if from >= text.len() {
+        return from;
     }
+    let rest = &text[from..];
+    for (i, c) in rest.iter().enumerate() {
+        if stops(what, *c) {
+            return from + i;
+        }
+    }
+    text.len()
 }
 
 // Whether a comment begins here: `#` or `;;`.

@@ -1,24 +1,34 @@
--- `program_words::scan` meets its contract. Assumes nothing.
+-- `program_words::scan` meets its contract: what is still to be scanned answers for the whole. Assumes nothing.
 use borrow.Author.Rules.{rules}
-use mathlib.Core.Path.{◌≡◌, ◌∙◌, ap}
+use native.Mathlib.Omega.{arith}
+use mathlib.Core.Path.{◌≡◌, sym, ◌∙◌, ap}
 use Prim.Native.Nat.{ℕ, ◌+◌, ◌≤◌}
-use lib.ListN.{length, drop}
-use Rattle.std.proofs.Common.{tests}
-use Rattle.std.proofs.lemmas.Iterator.{YieldsList-from_slice}
-use Rattle.std.proofs.lemmas.Iterator.Search.{position_from_yields_List}
+use lib.ListN.{length, length-drop}
 use Rattle.program_words.specs.Stops.{stops}
-use Rattle.program_words.proofs.Counts.{scan_before, tail_is}
-use Rattle.program_words.proofs.Scans.{at_end}
+use Rattle.program_words.proofs.Counts.{tail_is}
+use Rattle.program_words.proofs.Scans.{at_end, at_stop, at_other}
 use Rattle.program_words.proofs.scan.Goals as goal
 
-pub returns-in-Some-clause-place : goal.returns-in-Some-clause-place
-returns-in-Some-clause-place c =
-    let rest = c.in-Some.rest.now in
-    let left : rest ≡ drop c.args.from c.args.text.now = c.in-Some.ensures.lookup.0.2 ∙ tail_is c.args.text.now c.args.from in
-    let first = position_from_yields_List (stops c.args.what) _ _ c.position-passed.result c.position-passed.ensures.ran (YieldsList-from_slice rest cc) (λ x b q k. search (rules, tests)) in
-    ap (λ (n : ℕ). c.args.from + n) (rw (← left) (scan_before (stops c.args.what) rest _ _ first c.unwrap_or.ensures))
-
-pub returns-in-None-clause-place : goal.returns-in-None-clause-place
-returns-in-None-clause-place c =
-    let past : length c.args.text.now ≤ c.args.from = search rules in
+pub returns-then-from-text-clause-place : goal.returns-then-from-text-clause-place
+returns-then-from-text-clause-place c =
+    let past : length c.args.text.now ≤ c.args.from = omega arith in
     at_end (stops c.args.what) c.args.text.now c.args.from past
+
+pub returns-then-stops-clause-place : goal.returns-then-stops-clause-place
+returns-then-stops-clause-place c =
+    let at = c.loop-i in
+    let here = at_stop (stops c.args.what) _ at.i (search rules) (sym c.stops.ensures ∙ c.if-stops.true) ∙ sym at.invariant in
+    ap (λ (n : ℕ). c.args.from + n) (rw (tail_is c.args.text.now c.args.from) at here)
+
+pub loop-i-preserved : goal.loop-i-preserved
+loop-i-preserved c =
+    let at = c.loop-i in
+    at.invariant ∙ at_other (stops c.args.what) _ at.i (search rules) (sym c.stops.ensures ∙ c.if-stops.false)
+
+pub returns-clause-place : goal.returns-clause-place
+returns-clause-place c =
+    let at = c.loop-i in
+    let tail = tail_is c.args.text.now c.args.from in
+    let here = at_end (stops c.args.what) _ at.i (search rules) ∙ sym at.invariant in
+    let all : length c.args.text.now ≡ c.args.from + at.i = omega (arith, ap length tail, length-drop c.args.from c.args.text.now) in
+    all ∙ ap (λ (n : ℕ). c.args.from + n) (rw tail at here)
