@@ -131,7 +131,8 @@ fn end_line(line: &[u8], r: Reading) -> Result<Option<[u8; 32]>, Reason>
     Ok(Some(r.step))
 }
 
-// An operation's line after its name, which ends at a place.
+// An operation's line after its name, which ends at a place. Apart, so that what it works with is not set up for a line that says nothing.
+#[inline(never)]
 fn named(line: &[u8], operation: usize, at: usize) -> Result<Option<[u8; 32]>, Reason>
     requires { at ≤ length line.now }
     ensures { ReadAs (named operation (drop at line.now)) result }
