@@ -1,12 +1,15 @@
--- `program_words::lines` meets its contract. Assumes nothing.
-use borrow.Author.Rules.{rules}
-use mathlib.Core.Path.{◌≡◌, sym}
-use Rattle.std.specs.List.{count_by}
+-- `program_words::lines` meets its contract: a line for each line's end that is passed. Assumes nothing.
+use mathlib.Core.Path.{◌≡◌, sym, ◌∙◌}
+use native.Mathlib.Omega.{arith}
+use lib.ListN.{take}
+use lib.Seq.{take_all}
 use Rattle.program_words.specs.Cut.{newline}
 use Rattle.program_words.proofs.Counts.{length_pieces}
 use Rattle.program_words.proofs.lines.Goals as goal
 
 pub returns : goal.returns
 returns c =
-    let counted : c.count.result ≡ count_by newline c.args.text.now = search rules in
-    rw counted (sym (length_pieces newline c.args.text.now))
+    let text = c.args.text.now in
+    let at = c.loop-c in
+    let all : take at.c-index text ≡ text = take_all at.c-index text (omega arith) in
+    at.invariant ∙ rw all (sym (length_pieces newline text))
