@@ -22,7 +22,9 @@ fn replay_records(file: &[u8], n: usize) -> Verdict
     let mut writers = [0u16; 16];
     let mut scalar = Scalar::I32(0);
     for at in 0..n {
-        let r = record_at(file, at);
+        let Some(r) = record_at(file, at) else {
+            unreachable!();
+        };
         let left = account(&mut w, &mut writers, scalar, at as u8, &r[..32]);
         let verdict = compare(
             r,

@@ -24,5 +24,5 @@ unfolding run
 returns-in-Err c =
     let some = ne_eqb _ _ (not_0 c.in-Err.refusal) in
     let refused = rw c.in-Err.is at c.judge-judged.ensures in
-    let kept : c.take_up.new.writers ≡ c.args.writers.now = rw (c.in-Err.is, some) at c.take_up.ensures in
+    let kept : c.take_up.new.writers ≡ c.args.writers.now = rw c.in-Err.is at c.take_up.ensures in
     rw (kept, ← refused, some)
