@@ -4,8 +4,8 @@ use Rattle.chain.proofs.Bytes.{Whole}
 use Rattle.chain.proofs.Folding.{Folding}
 use Rattle.chain_fold.proofs.fold.Given as goal
 
-abbrev pub invariant-loop-link : goal.invariant-loop-link
-invariant-loop-link l = record {
-  folding : Folding l.links l.link-index l.current;
-  whole : Whole (take l.link-index l.links);
+abbrev pub invariant-loop-k : goal.invariant-loop-k
+invariant-loop-k l = record {
+  folding : Folding l.links l.k l.current;
+  whole : Whole (take l.k l.links);
 }
