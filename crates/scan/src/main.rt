@@ -59,7 +59,9 @@ fn report(rt: &HostRuntime, ending: Result<(), Refusal>) {
     tell_status(rt, ending.is_ok());
 }
 
-// An argument of Linux has fewer than 131,072 bytes, so each comes whole, whatever zeros it begins with.
+// An argument of Linux has fewer than 131,072 bytes, so each comes whole, whatever zeros it begins with. Apart, so that the room for one is taken when it is read,
+// and not that for all four beside the capture's window.
+#[inline(never)]
 fn decimal_at(env: &impl Env, i: usize) -> Option<u32> {
     let mut text = [0u8; 131072];
     let n = argument(env, i, &mut text);
@@ -90,6 +92,7 @@ fn bytes_in(text: &[u8]) -> Option<u64> {
     Some(value)
 }
 
+#[inline(never)]
 fn bytes_at(env: &impl Env, i: usize) -> Option<u64> {
     let mut text = [0u8; 131072];
     let n = argument(env, i, &mut text);
