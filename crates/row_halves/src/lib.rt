@@ -34,8 +34,9 @@ fn combine<F: Fn(u64, u64) -> u64>(first: &mut [u64], second: &[u64], f: F) -> R
     ensures first_after { (whole half : ℕ → ℕ → ℕ) → ByHalves whole half → ((x y r : ℕ) → x < 2 ^ 64 → y < 2 ^ 64 → F.post f x y r → r ≡ half x y) → first.new ≡ after (code_of result) (halves (zip whole (vectors first.old) (vectors second.now))) first.old }
 {
     judge(first.len(), second.len())?;
-    for (i, a) in first.iter_mut().enumerate() {
-        *a = f(*a, second[i]);
+    // By index: an edit that ends the loop early is then refused by the promise, and not for its form.
+    for i in 0..first.len() {
+        first[i] = f(first[i], second[i]);
     }
     Ok(())
 }

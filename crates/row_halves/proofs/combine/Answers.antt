@@ -20,10 +20,10 @@ loop-i-preserved g c =
     let loop = c.loop-i in
     let fits_first : Fits w64 (slice_index_or loop.first loop.i 0) = search rules in
     let fits_second = c.type_inv.second loop.i in
-    turned half _ _ loop.first loop.i c.f.result (loop.invariant half each) c.loop-i-test.true fits_first fits_second c.f.type_inv
+    turned half _ _ loop.first loop.i c.f.result (loop.invariant half each) (search rules) fits_first fits_second c.f.type_inv
     (each _ _ _ fits_first.fits fits_second.fits c.f.ensures)
 
 pub returns-clause-first_after : goal.returns-clause-first_after
 returns-clause-first_after g c =
     λ whole half by each.
-    all_turned whole half by _ _ _ c.loop-i.i (fits _ _ (sym c.in_ok-judge.ensures)).1 c.loop-i-test.false (c.loop-i.invariant half each)
+    all_turned whole half by _ _ _ c.loop-i.i (fits _ _ (sym c.in_ok-judge.ensures)).1 (search rules) (c.loop-i.invariant half each)
