@@ -46,7 +46,7 @@ pub fn fold(links: &[[u8; 17]], out: &mut [u8; 16]) -> Result<(), Refusal>
 {
     judge(links)?;
     let mut current = OF_A;
-    // By index: an edit that does the last link first is then refused by the promise. Over the links themselves it needs a counter, which no invariant knows.
+    // By index, which the edit that does the last link first turns round. Over the links themselves it needs a counter, which no invariant knows.
     for k in 0..links.len() {
         let next = linked(current, links[k]);
         current = next;
